@@ -1,0 +1,32 @@
+-- Questions as they are asked, one after the other, and the first that is answered no.
+use Prim.Native.Nat.{ℕ}
+use mathlib.Core.Bool.{Bool, true, false, cond}
+use mathlib.Core.List.{List, [], _∷_, _++_}
+use mathlib.Core.Path.{_≡_}
+use Rattle.std.specs.declared.option.Option.{Option}
+use Rattle.std.specs.declared.option.Option.the-variants.{Some, None}
+use Rattle.fault.specs.declared.fault.Fault.{Fault}
+use Rattle.fault.specs.declared.fault.Question.{Question}
+
+-- a question, the place where it is asked, and whether it is answered yes
+pub record Asked : Type 0 where
+  pub question : Question
+  pub place : ℕ
+  pub yes : Bool
+
+-- the first question that is answered no, with its place; none where all are answered yes
+abbrev pub refusal : List Asked → Option Fault
+refusal [] = None
+refusal (a ∷ as′) = cond (a .yes) (refusal as′) (Some (record { question = a .question; place = a .place }))
+
+-- every question is answered yes
+abbrev pub AllYes : List Asked → Type 0
+AllYes [] = Unit {0}
+AllYes (a ∷ as′) = (a .yes ≡ true) × AllYes as′
+
+-- among the questions asked, q at p is answered no, and every one that comes before it is answered yes
+pub record FirstNo (asked : List Asked) (f : Fault) : Type 0 where
+  pub before : List Asked
+  pub after : List Asked
+  pub split : asked ≡ before ++ (record { question = f .question; place = f .place; yes = false } ∷ after)
+  pub passed : AllYes before

@@ -1,0 +1,5 @@
+pub mod Bytes
+pub mod Decoding
+pub mod Frames
+pub mod Kinds
+pub mod Ranges
