@@ -1,5 +1,5 @@
 -- Questions as they are asked, one after the other, and the first that is answered no.
-use Prim.Native.Nat.{ℕ}
+use Prim.Native.Nat.{ℕ, zero, suc}
 use mathlib.Core.Bool.{Bool, true, false, cond}
 use mathlib.Core.List.{List, [], _∷_, _++_}
 use mathlib.Core.Path.{_≡_}
@@ -30,3 +30,8 @@ pub record FirstNo (asked : List Asked) (f : Fault) : Type 0 where
   pub after : List Asked
   pub split : asked ≡ before ++ (record { question = f .question; place = f .place; yes = false } ∷ after)
   pub passed : AllYes before
+
+-- what is asked at 0, then at 1, and so on below n
+abbrev pub askedUpTo : ℕ → (ℕ → List Asked) → List Asked
+askedUpTo zero f = []
+askedUpTo (suc n) f = askedUpTo n f ++ f n

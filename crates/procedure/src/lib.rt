@@ -1,0 +1,3 @@
+//! Procedures: the nodes and arrows of a diagram, and the reader of procedure files.
+mod claim;
+mod draft;
