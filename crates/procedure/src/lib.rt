@@ -1,3 +1,5 @@
 //! Procedures: the nodes and arrows of a diagram, and the reader of procedure files.
+mod admit;
 mod claim;
 mod draft;
+mod step;
