@@ -4,5 +4,7 @@ pub mod Fields
 pub mod Fitting
 pub mod Growing
 pub mod Laying
+pub mod Reached
 pub mod Stepping
 pub mod Unique
+pub mod Wholes

@@ -105,11 +105,13 @@ wholeAsks d = rootAsks d ++ (binderAsks d ++ scopeAsks d)
 abbrev pub recordsAsks : List ℕ → ℕ → List Asked
 recordsAsks b n = askedUpTo n (λ i. recordAsks b (startOf b i) i (drawnBy b i))
 
--- all questions of a file, in the order in which they are asked: question 1, then 2 to 7 of one record after the other, then 8, 9 and 10
+-- question 1, and then 2 to 7 of one record after the other
+abbrev pub fileAsks : List ℕ → List Asked
+fileAsks b = record { question = FileWithinLimit; place = 0; yes = leb (length b) 16384 } ∷ recordsAsks b (records b)
+
+-- all questions of a file, in the order in which they are asked
 unfoldable pub asks : List ℕ → List Asked
-asks b =
-    record { question = FileWithinLimit; place = 0; yes = leb (length b) 16384 }
-    ∷ (recordsAsks b (records b) ++ wholeAsks (drawnBy b (records b)))
+asks b = fileAsks b ++ wholeAsks (drawnBy b (records b))
 
 abbrev pub readingAs : Option Fault → Drawing → Result Drawing Fault
 readingAs None d = Ok d

@@ -2,4 +2,6 @@
 mod admit;
 mod claim;
 mod draft;
+mod fill;
 mod step;
+mod whole;
