@@ -74,3 +74,21 @@ first-no (x ∷ xs) f h =
 pub refused-by : (xs : List Asked) (f : Fault) → FirstNo xs f → refusal xs ≡ Some f
 refused-by xs f r =
     ap refusal (r .split) ∙ refusal-more (r .before) (record { question = f .question; place = f .place; yes = false } ∷ r .after) (no-refusal (r .before) (r .passed))
+
+-- no refusal of both: none of either
+pub refusal-parts : (xs ys : List Asked) → refusal (xs ++ ys) ≡ None → (refusal xs ≡ None) × (refusal ys ≡ None)
+refusal-parts [] ys h = (refl, h)
+refusal-parts (x ∷ xs) ys h =
+    ⊎-elim
+    (λ t. let r = refusal-parts xs ys (rw t at h) in (rw t (r .0), r .1))
+    (λ f. absurd (clash (sym (rw f at h))))
+    (cases-bool (x .yes))
+
+pub asked-each : (n : ℕ) (g : ℕ → List Asked) → refusal (askedUpTo n g) ≡ None → (i : ℕ) → i < n → refusal (g i) ≡ None
+asked-each zero g h i lt = absurd (omega arith)
+asked-each (suc n) g h i lt =
+    let r = refusal-parts (askedUpTo n g) (g n) h in
+    ⊎-elim (λ l. asked-each n g (r .0) i l) (λ ge. let e : n ≡ i = omega arith in rw e at (r .1)) (cases-lt i n)
+
+pub yes-first : (x : Asked) (xs : List Asked) → refusal (x ∷ xs) ≡ None → (x .yes ≡ true) × (refusal xs ≡ None)
+yes-first x xs h = ⊎-elim (λ t. (t, rw t at h)) (λ f. absurd (clash (sym (rw f at h)))) (cases-bool (x .yes))

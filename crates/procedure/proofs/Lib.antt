@@ -5,6 +5,7 @@ pub mod Fitting
 pub mod Growing
 pub mod Laying
 pub mod Reached
+pub mod Readings
 pub mod Stepping
 pub mod Unique
 pub mod Wholes

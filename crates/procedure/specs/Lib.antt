@@ -3,6 +3,7 @@ pub mod Drafts
 pub mod Drawings
 pub mod Framed
 pub mod Layout
+pub mod Procedures
 pub mod Reading
 pub mod Scopes
 pub mod Sound

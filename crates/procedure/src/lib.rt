@@ -3,5 +3,7 @@ mod admit;
 mod claim;
 mod draft;
 mod fill;
+pub mod procedure;
+mod read;
 mod step;
 mod whole;
