@@ -6,4 +6,5 @@ mod fill;
 pub mod procedure;
 mod read;
 mod step;
+mod telling;
 mod whole;
