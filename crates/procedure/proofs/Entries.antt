@@ -20,8 +20,9 @@ use Rattle.record.specs.Ranges.{markFits, stateFits, argumentFits, guardFits, a
 use Rattle.record.specs.declared.kind.Kind.{Kind}
 use Rattle.record.specs.declared.kind.Kind.the-variants as k
 use Rattle.record.specs.declared.entry.Entry.{Entry}
+use Rattle.record.proofs.Below.{all-at}
 use Rattle.procedure.specs.Layout.{markField, optionField, argumentFields, stateFields, fieldsOf, Written, NeatEntry}
-use Rattle.procedure.proofs.Fields.{fieldsFrom, below-all, table-below, table-past, table-neat, take-table}
+use Rattle.procedure.proofs.Fields.{fieldsFrom, table-below, table-past, table-neat, take-table}
 
 -- fields that are read and written again
 mark-kept : (c : ℕ) → c ≤ 2 → markField (markOf c) ≡ c
@@ -167,7 +168,7 @@ module _ (b : List ℕ) (at : ℕ) where
       let q = and-parts (leb n 32) _ (p .1) in
       let r = and-parts (ltb (fieldAt b (at + 6)) n) _ (q .1) in
       let few = leb-true n 32 (q .0) in
-      record { count = suc (suc (suc (2 * n))); size = omega arith; fields = states-read h few (below-all n (λ i. stateFits b (at + 8 + 4 * i)) (r .1)); neat = (table-neat 32 blankState n (λ i. stateAt b (at + 8 + 4 * i)) few, states-written few) }
+      record { count = suc (suc (suc (2 * n))); size = omega arith; fields = states-read h few (λ i lt. all-at (λ j. stateFits b (at + 8 + 4 * j)) n i (r .1) lt); neat = (table-neat 32 blankState n (λ i. stateAt b (at + 8 + 4 * i)) few, states-written few) }
   entry-read k.Sequence h l f = record { count = 3; size = l; fields = three-fields 2 h; neat = tt }
   entry-read k.Closure h l f = record { count = 2; size = l; fields = two-fields 3 h; neat = tt }
   entry-read k.Guard h l f = record { count = 3; size = l; fields = three-fields 4 h; neat = tt }

@@ -2,7 +2,7 @@
 use Prim.Native.Nat.{ℕ, zero, suc, _+_, _-_, _*_, _<_, _≤_}
 use mathlib.Core.Path.{_≡_, refl, sym, _∙_, ap}
 use mathlib.Core.Logic.{⊎-elim}
-use mathlib.Core.Bool.{Bool, true, cond}
+use mathlib.Core.Bool.{cond}
 use mathlib.Core.List.{List, [], _∷_, _++_, map}
 use lib.ListN.{length, getD, take, drop, replicate}
 use lib.Dec.{ltb}
@@ -11,10 +11,9 @@ use native.Mathlib.Nat.{add-assoc, add-zero, zero-add}
 use Rattle.std.specs.Iters.{counting}
 use Rattle.std.proofs.shelf.Lists.{drop-more, length-take-le, length-append, length-replicate, getD-take, getD-past, getD-append-left, getD-append-right, getD-replicate, ext-getD}
 use Rattle.std.proofs.shelf.Counted.{length-map-counting, getD-map-counting, fill-by-all}
-use Rattle.std.proofs.shelf.Tests.{cases-lt, cond-true, cond-false, lt-ltb, le-ltb, and-parts}
+use Rattle.std.proofs.shelf.Tests.{cases-lt, cond-true, cond-false, lt-ltb, le-ltb}
 use Rattle.record.specs.Bytes.{fieldAt}
 use Rattle.record.specs.Decoding.{tabled}
-use Rattle.record.specs.Ranges.{allBelow}
 use Rattle.procedure.specs.Layout.{fieldsIn, Neat}
 
 -- the m fields from `at` on
@@ -38,13 +37,6 @@ fields-split b at zero h = rw add-zero refl
 fields-split b at (suc m) h =
     let e : at + 2 * suc m ≡ at + 2 + 2 * m = omega arith in
     rw e (fields-more b at (omega arith) ∙ ap (λ r. fieldAt b at ∷ r) (fields-split b (at + 2) m (omega arith)))
-
--- a test that holds of every number below n
-pub below-all : (n : ℕ) (f : ℕ → Bool) → allBelow n f ≡ true → (i : ℕ) → i < n → f i ≡ true
-below-all zero f h i lt = absurd (omega arith)
-below-all (suc n) f h i lt =
-    let p = and-parts (allBelow n f) (f n) h in
-    ⊎-elim (λ s. below-all n f (p .0) i s) (λ s. let e : n ≡ i = omega arith in ap f (sym e) ∙ p .1) (cases-lt i n)
 
 -- a table whose first n places are given by f
 module _ {X : Type 0} (size : ℕ) (blank : X) (n : ℕ) (f : ℕ → X) (few : n ≤ size) where

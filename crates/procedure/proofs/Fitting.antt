@@ -16,7 +16,7 @@ use Rattle.record.specs.Ranges.{allBelow, markFits, stateFits, statesFit, label
 use Rattle.record.specs.declared.kind.Kind.{Kind}
 use Rattle.record.specs.declared.kind.Kind.the-variants as k
 use Rattle.record.proofs.Below.{all-as}
-use Rattle.record.proofs.Tables.{tabled-at}
+use Rattle.procedure.proofs.Fields.{table-below}
 use Rattle.procedure.specs.Sound.{markSound, statesSound, labelsSound, guardSound, arrowSound, entrySound}
 
 mark-sound : (m c : ℕ) → markFits m c ≡ true → markSound (markOf m) (unlessNone c) ≡ true
@@ -42,18 +42,18 @@ states-sound b at h =
     let most = leb-true n 32 (q .0) in
     rw (p .0, q .0, r .0)
     (all-as f (λ i. markSound (getD (statesAt b at .table) i blankState .mark) (getD (statesAt b at .table) i blankState .child)) n
-        (λ i lt y. rw (tabled-at 32 blankState n (λ j. stateAt b (at + 8 + 4 * j)) i (omega arith) lt) (mark-sound (fieldAt b (at + 8 + 4 * i)) (fieldAt b (at + 8 + 4 * i + 2)) y)) (r .1))
+        (λ i lt y. rw (table-below 32 blankState n (λ j. stateAt b (at + 8 + 4 * j)) most i lt) (mark-sound (fieldAt b (at + 8 + 4 * i)) (fieldAt b (at + 8 + 4 * i + 2)) y)) (r .1))
 
 label-sound : (b : List ℕ) (at i : ℕ) → fieldAt b (at + 8) ≤ 16 → i < fieldAt b (at + 8) → labelFits b at i ≡ true
     → (leb (getD (labelsAt b at .table) i 0) 255 && (eqb i 0 || ltb (getD (labelsAt b at .table) (i - 1) 0) (getD (labelsAt b at .table) i 0))) ≡ true
 label-sound b at zero most lt y =
     let p = and-parts (leb (fieldAt b (at + 10 + 2 * 0)) 255) (eqb 0 0 || ltb (fieldAt b (at + 8 + 2 * 0)) (fieldAt b (at + 10 + 2 * 0))) y in
-    and-from (leb (getD (labelsAt b at .table) 0 0) 255) true (rw (tabled-at 16 0 (fieldAt b (at + 8)) (λ j. fieldAt b (at + 10 + 2 * j)) 0 (omega arith) lt) (p .0)) refl
+    and-from (leb (getD (labelsAt b at .table) 0 0) 255) true (rw (table-below 16 0 (fieldAt b (at + 8)) (λ j. fieldAt b (at + 10 + 2 * j)) most 0 lt) (p .0)) refl
 label-sound b at (suc i) most lt y =
     let f : ℕ → ℕ = λ j. fieldAt b (at + 10 + 2 * j) in
-    let here = tabled-at 16 0 (fieldAt b (at + 8)) f (suc i) (omega arith) lt in
+    let here = table-below 16 0 (fieldAt b (at + 8)) f most (suc i) lt in
     let back : suc i - 1 ≡ i = omega arith in
-    let before = tabled-at 16 0 (fieldAt b (at + 8)) f i (omega arith) (omega arith) in
+    let before = table-below 16 0 (fieldAt b (at + 8)) f most i (omega arith) in
     let same : fieldAt b (at + 8 + 2 * suc i) ≡ f i = ap (fieldAt b) (omega arith) in
     rw (here, back, before, ← same) y
 

@@ -4,12 +4,11 @@ use mathlib.Core.Path.{_≡_, refl, sym, _∙_, ap}
 use mathlib.Core.Bool.{true}
 use mathlib.Core.List.{List, [], _∷_, _++_}
 use lib.ListN.{length, drop}
-use lib.Dec.{leb}
 use native.Mathlib.Omega.{arith}
 use Rattle.std.specs.declared.option.Option.{Option}
 use Rattle.std.specs.declared.option.Option.the-variants.{Some, None}
 use Rattle.std.proofs.shelf.Lists.{append-nil, append-assoc, length-append, drop-all}
-use Rattle.std.proofs.shelf.Tests.{and-parts, leb-true, eqb-true, false≢true}
+use Rattle.std.proofs.shelf.Tests.{eqb-true, false≢true}
 use Rattle.record.specs.Bytes.{fieldAt}
 use Rattle.record.specs.Kinds.{kindOf}
 use Rattle.record.specs.Frames.{whole, exact, exactAs}
@@ -22,6 +21,7 @@ use Rattle.procedure.specs.Layout.{fieldsIn, fieldsOf, recordOf, recordsOf, Ne
 use Rattle.procedure.specs.Reading.{startOf, entryAs, entryHere, drawnBy, rangedAs, ranged}
 use Rattle.procedure.proofs.Fields.{fieldsFrom, length-fields, fields-split}
 use Rattle.procedure.proofs.Entries.{Read, kind-code, entry-read}
+use Rattle.procedure.proofs.Stepping.{whole-is}
 use Rattle.procedure.proofs.Unique.{records-once}
 
 -- one entry more at the end
@@ -78,8 +78,7 @@ laid-more b i l h w =
     let s = h .read .size in
     let rest = fieldsIn (drop (at + 2 + fieldAt b at) b) in
     let e : at + 2 * m ≡ at + 2 + fieldAt b at = omega arith in
-    let p = and-parts (leb (at + 4) (length b)) _ w .1 in
-    let q = leb-true (at + 2 + fieldAt b at) (length b) (and-parts (leb 2 (fieldAt b at)) _ p .1) in
+    let q = whole-is b at w in
     let r = here-record b at h in
     let k : length (recordOf x) ≡ m = ap length r ∙ length-fields b at m in
     let f : fieldsIn (drop at b) ≡ recordOf x ++ rest =

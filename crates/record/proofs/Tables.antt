@@ -9,7 +9,7 @@ use lib.Dec.{ltb, leb}
 use native.Mathlib.Omega.{arith}
 use borrow.Author.Count.{below-more}
 use Rattle.std.proofs.shelf.Lists.{length-set, length-replicate, getD-replicate, getD-set-same, getD-set-other, getD-past}
-use Rattle.std.proofs.shelf.Counted.{fill-by-all, getD-map-counting}
+use Rattle.std.proofs.shelf.Counted.{fill-by-all}
 use Rattle.std.proofs.shelf.Tests.{cases-lt, cond-true, cond-false, lt-ltb, le-ltb, le-leb}
 use Rattle.notation.specs.Parts.{blankState}
 use Rattle.notation.specs.declared.node.State.{State}
@@ -69,9 +69,3 @@ states-are b at count start i table e s z l lt h a =
     let few : leb (fieldAt b (at + 4)) 32 ≡ true = le-leb (fieldAt b (at + 4)) 32 (omega arith) in
     let low : ltb (fieldAt b (at + 6)) (fieldAt b (at + 4)) ≡ true = lt-ltb (fieldAt b (at + 6)) (fieldAt b (at + 4)) (omega arith) in
     (rw (some, few, low, ← n) a, rw (e, s, t) refl)
-
--- a place in use
-pub tabled-at : {X : Type 0} (size : ℕ) (blank : X) (n : ℕ) (f : ℕ → X) (i : ℕ) → i < size → i < n → getD (tabled size blank n f) i blank ≡ f i
-unfolding tabled
-tabled-at size blank n f i lt below =
-    getD-map-counting (λ k. cond (ltb k n) (f k) blank) 0 size i i blank lt (omega arith) ∙ cond-true (ltb i n) (f i) blank (lt-ltb i n below)
