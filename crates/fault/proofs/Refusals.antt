@@ -60,12 +60,12 @@ first-no [] f h = absurd (clash h)
 first-no (x ∷ xs) f h =
     ⊎-elim
     (λ t.
-        let r = first-no xs f (rw t at h) in
-        record { before = x ∷ r .before; after = r .after; split = ap (λ l. x ∷ l) (r .split); passed = (t, r .passed) })
+    let r = first-no xs f (rw t at h) in
+    record { before = x ∷ r .before; after = r .after; split = ap (λ l. x ∷ l) (r .split); passed = (t, r .passed) })
     (λ n.
-        let s : _≡_ {A = Option Fault} (Some (record { question = x .question; place = x .place })) (Some f) = rw n at h in
-        let e : _≡_ {A = Fault} (record { question = x .question; place = x .place }) f = cc in
-        record { before = []; after = xs; split = split-here x xs f n e; passed = tt })
+    let s : _≡_ {A = Option Fault} (Some (record { question = x .question; place = x .place })) (Some f) = rw n at h in
+    let e : _≡_ {A = Fault} (record { question = x .question; place = x .place }) f = cc in
+    record { before = []; after = xs; split = split-here x xs f n e; passed = tt })
     (cases-bool (x .yes))
   where
     split-here : (x : Asked) (xs : List Asked) (f : Fault) → x .yes ≡ false → _≡_ {A = Fault} (record { question = x .question; place = x .place }) f → x ∷ xs ≡ record { question = f .question; place = f .place; yes = false } ∷ xs

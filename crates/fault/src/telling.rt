@@ -1,6 +1,5 @@
 ghost use mathlib.Core.Path.{_≡_};
 ghost use Rattle.fault.specs.Faults.{numberOf, layerOf, layerNumberOf};
-
 use crate::fault::Fault;
 use crate::fault::Layer;
 use crate::fault::Question;
@@ -55,6 +54,18 @@ impl Question {
             | Question::SuccessorsWithinCeiling
             | Question::MenuWithinList => Layer::Running,
             Question::SettingInRange => Layer::Settings,
+        }
+    }
+}
+
+impl Question {
+    /// A no to this question, at a place.
+    pub fn at(self, place: usize) -> Fault
+        ensures is_this_question_at_the_place { λ r. ⌜ r ≡ record { question = self; place = place } ⌝ }
+    {
+        Fault {
+            question: self,
+            place,
         }
     }
 }

@@ -33,12 +33,36 @@ pub struct Labels {
 /// A node of a diagram. Children are given by their numbers.
 #[derive(Clone, Copy)]
 pub enum Node {
-    Closure { body: u16 },
-    Automaton { states: States },
-    Sequence { first: u16, second: u16 },
-    Guard { guard: u16, body: u16 },
-    Choice { left: u16, right: u16 },
-    Synchronisation { left: u16, right: u16, labels: Labels },
-    QuantifiedChoice { over: u16, body: u16 },
-    QuantifiedSynchronisation { over: u16, body: u16, labels: Labels },
+    Closure {
+        body: u16,
+    },
+    Automaton {
+        states: States,
+    },
+    Sequence {
+        first: u16,
+        second: u16,
+    },
+    Guard {
+        guard: u16,
+        body: u16,
+    },
+    Choice {
+        left: u16,
+        right: u16,
+    },
+    Synchronisation {
+        left: u16,
+        right: u16,
+        labels: Labels,
+    },
+    QuantifiedChoice {
+        over: u16,
+        body: u16,
+    },
+    QuantifiedSynchronisation {
+        over: u16,
+        body: u16,
+        labels: Labels,
+    },
 }

@@ -1,6 +1,5 @@
 ghost use mathlib.Core.Path.{_≡_};
 ghost use Rattle.notation.specs.Parts.{isAbsent, binds, statesOf, bindersFor};
-
 use crate::arrow::Argument;
 use crate::node::Node;
 

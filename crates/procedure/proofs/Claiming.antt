@@ -65,12 +65,13 @@ table-set : (m : ℕ) (ns : List Node) (before : List ℕ) (t : List (Option ℕ
 table-set m ns before t k lt h =
     let l = h .long in
     let lt′ : k < length t = omega arith in
-    record
-      { long = length-set t k (Some m) ∙ h .long
-      ; at = λ j s. ⊎-elim
+    record {
+      long = length-set t k (Some m) ∙ h .long;
+      at = λ j s. ⊎-elim
           (λ e. rw e (getD-set-same t k (Some m) None lt′ ∙ sym (ap (λ a. cond a (Some m) (parentOf ns k)) (among-last k before))))
           (λ ne. getD-set-other t k j (Some m) None ne ∙ h .at j s ∙ sym (ap (λ a. cond a (Some m) (parentOf ns j)) (among-other j k before ne)))
-          (cases-eq j k) }
+          (cases-eq j k);
+    }
 
 free-both : (m : ℕ) (a : Bool) (p : Option ℕ) → isSome (cond a (Some m) p) ≡ false → (a ≡ false) × (isSome p ≡ false)
 free-both m true p h = let z : _≡_ {A = Bool} true false = h in let y : _≡_ {A = ℕ} 0 1 = cc in absurd (omega arith)
@@ -82,13 +83,13 @@ claims-yes m ns before [] t u e le tab h = let s : t ≡ u = cc in (refl, rw (ap
 claims-yes m ns before (k ∷ ks) t u e le tab h =
     ⊎-elim
     (λ y.
-        let p = and-parts (ltb k m) (not (isSome (getD t k None))) y in
-        let lt = ltb-true k m (p .0) in
-        let lt′ : k < 64 = omega arith in
-        let f = free-both m (among k before) (parentOf ns k) (sym (ap isSome (tab .at k lt′)) ∙ not-true (isSome (getD t k None)) (p .1)) in
-        let r = claims-yes m ns (before ++ k ∷ []) ks (set t k (Some m)) u e le (table-set m ns before t k lt′ tab) (sym (ap (λ b. cond b (claims m (set t k (Some m)) ks) None) y) ∙ h) in
-        let low : ltb k (length ns) ≡ true = lt-ltb k (length ns) (omega arith) in
-        (rw (low, f .1, f .0) (r .0), rw append-assoc at (r .1)))
+    let p = and-parts (ltb k m) (not (isSome (getD t k None))) y in
+    let lt = ltb-true k m (p .0) in
+    let lt′ : k < 64 = omega arith in
+    let f = free-both m (among k before) (parentOf ns k) (sym (ap isSome (tab .at k lt′)) ∙ not-true (isSome (getD t k None)) (p .1)) in
+    let r = claims-yes m ns (before ++ k ∷ []) ks (set t k (Some m)) u e le (table-set m ns before t k lt′ tab) (sym (ap (λ b. cond b (claims m (set t k (Some m)) ks) None) y) ∙ h) in
+    let low : ltb k (length ns) ≡ true = lt-ltb k (length ns) (omega arith) in
+    (rw (low, f .1, f .0) (r .0), rw append-assoc at (r .1)))
     (λ z. let q : None ≡ Some u = sym (ap (λ b. cond b (claims m (set t k (Some m)) ks) None) z) ∙ h in let y : _≡_ {A = ℕ} 0 1 = cc in absurd (omega arith))
     (cases-bool (ltb k m && not (isSome (getD t k None))))
 
@@ -102,19 +103,19 @@ claims-no m ns before [] t e le tab h = let y : _≡_ {A = ℕ} 0 1 = cc in absu
 claims-no m ns before (k ∷ ks) t e le tab h =
     ⊎-elim
     (λ y.
-        let p = and-parts (ltb k m) (not (isSome (getD t k None))) y in
-        let lt = ltb-true k m (p .0) in
-        let lt′ : k < 64 = omega arith in
-        let f = free-both m (among k before) (parentOf ns k) (sym (ap isSome (tab .at k lt′)) ∙ not-true (isSome (getD t k None)) (p .1)) in
-        let low : ltb k (length ns) ≡ true = lt-ltb k (length ns) (omega arith) in
-        rw (low, f .1, f .0) (claims-no m ns (before ++ k ∷ []) ks (set t k (Some m)) e le (table-set m ns before t k lt′ tab) (sym (ap (λ b. cond b (claims m (set t k (Some m)) ks) None) y) ∙ h)))
+    let p = and-parts (ltb k m) (not (isSome (getD t k None))) y in
+    let lt = ltb-true k m (p .0) in
+    let lt′ : k < 64 = omega arith in
+    let f = free-both m (among k before) (parentOf ns k) (sym (ap isSome (tab .at k lt′)) ∙ not-true (isSome (getD t k None)) (p .1)) in
+    let low : ltb k (length ns) ≡ true = lt-ltb k (length ns) (omega arith) in
+    rw (low, f .1, f .0) (claims-no m ns (before ++ k ∷ []) ks (set t k (Some m)) e le (table-set m ns before t k lt′ tab) (sym (ap (λ b. cond b (claims m (set t k (Some m)) ks) None) y) ∙ h)))
     (λ z. ⊎-elim
-        (λ high. let ge = ltb-false k m high in let out : ltb k (length ns) ≡ false = le-ltb k (length ns) (omega arith) in rw out refl)
-        (λ taken. ⊎-elim
-            (λ lt.
-                let lt′ : k < 64 = omega (arith, ltb-true k m lt) in
-                and-right (ltb k (length ns)) _ (taken-either m (among k before) (parentOf ns k) (childrenFree ns (before ++ k ∷ []) ks) (sym (ap isSome (tab .at k lt′)) ∙ not-false (isSome (getD t k None)) taken)))
-            (λ high. let ge = ltb-false k m high in let out : ltb k (length ns) ≡ false = le-ltb k (length ns) (omega arith) in rw out refl)
-            (cases-bool (ltb k m)))
-        (and-cases (ltb k m) (not (isSome (getD t k None))) z))
+    (λ high. let ge = ltb-false k m high in let out : ltb k (length ns) ≡ false = le-ltb k (length ns) (omega arith) in rw out refl)
+    (λ taken. ⊎-elim
+    (λ lt.
+    let lt′ : k < 64 = omega (arith, ltb-true k m lt) in
+    and-right (ltb k (length ns)) _ (taken-either m (among k before) (parentOf ns k) (childrenFree ns (before ++ k ∷ []) ks) (sym (ap isSome (tab .at k lt′)) ∙ not-false (isSome (getD t k None)) taken)))
+    (λ high. let ge = ltb-false k m high in let out : ltb k (length ns) ≡ false = le-ltb k (length ns) (omega arith) in rw out refl)
+    (cases-bool (ltb k m)))
+    (and-cases (ltb k m) (not (isSome (getD t k None))) z))
     (cases-bool (ltb k m && not (isSome (getD t k None))))

@@ -78,5 +78,5 @@ neat-padded size blank n xs h =
     let m : length (take n xs ++ r) ≡ length xs = rw (length-append, length-replicate) (omega arith) in
     ext-getD blank (take n xs ++ r) xs m
     (λ i s. ⊎-elim (λ lt. getD-append-left (take n xs) r blank i (omega arith) ∙ getD-take n xs i blank lt)
-      (λ ge. getD-append-right (take n xs) r n i blank l ge ∙ getD-replicate (size - length (take n xs)) (i - n) blank blank (omega arith) ∙ sym (h .past i ge))
-      (cases-lt i n))
+    (λ ge. getD-append-right (take n xs) r n i blank l ge ∙ getD-replicate (size - length (take n xs)) (i - n) blank blank (omega arith) ∙ sym (h .past i ge))
+    (cases-lt i n))

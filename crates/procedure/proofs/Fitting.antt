@@ -24,12 +24,12 @@ mark-sound m c h =
     ⊎-elim
     (λ e. rw (eq-eqb m 0 e) refl)
     (λ n0. ⊎-elim
-        (λ e. rw (ne-eqb m 0 n0, eq-eqb m 1 e) refl)
-        (λ n1. ⊎-elim
-            (λ low. absurd (n1 (let l = leb-true m 1 low in omega arith)))
-            (λ deep. let p = and-parts (eqb m 2) (not (eqb c 65535)) deep in rw (ne-eqb m 0 n0, ne-eqb m 1 n1, not-true (eqb c 65535) (p .1)) refl)
-            (or-cases (leb m 1) (eqb m 2 && not (eqb c 65535)) h))
-        (cases-eq m 1))
+    (λ e. rw (ne-eqb m 0 n0, eq-eqb m 1 e) refl)
+    (λ n1. ⊎-elim
+    (λ low. absurd (n1 (let l = leb-true m 1 low in omega arith)))
+    (λ deep. let p = and-parts (eqb m 2) (not (eqb c 65535)) deep in rw (ne-eqb m 0 n0, ne-eqb m 1 n1, not-true (eqb c 65535) (p .1)) refl)
+    (or-cases (leb m 1) (eqb m 2 && not (eqb c 65535)) h))
+    (cases-eq m 1))
     (cases-eq m 0)
 
 states-sound : (b : List ℕ) (at : ℕ) → statesFit b at ≡ true → statesSound (statesAt b at) ≡ true
@@ -42,7 +42,7 @@ states-sound b at h =
     let most = leb-true n 32 (q .0) in
     rw (p .0, q .0, r .0)
     (all-as f (λ i. markSound (getD (statesAt b at .table) i blankState .mark) (getD (statesAt b at .table) i blankState .child)) n
-        (λ i lt y. rw (table-below 32 blankState n (λ j. stateAt b (at + 8 + 4 * j)) most i lt) (mark-sound (fieldAt b (at + 8 + 4 * i)) (fieldAt b (at + 8 + 4 * i + 2)) y)) (r .1))
+    (λ i lt y. rw (table-below 32 blankState n (λ j. stateAt b (at + 8 + 4 * j)) most i lt) (mark-sound (fieldAt b (at + 8 + 4 * i)) (fieldAt b (at + 8 + 4 * i + 2)) y)) (r .1))
 
 label-sound : (b : List ℕ) (at i : ℕ) → fieldAt b (at + 8) ≤ 16 → i < fieldAt b (at + 8) → labelFits b at i ≡ true
     → (leb (getD (labelsAt b at .table) i 0) 255 && (eqb i 0 || ltb (getD (labelsAt b at .table) (i - 1) 0) (getD (labelsAt b at .table) i 0))) ≡ true
@@ -63,7 +63,7 @@ labels-sound b at h =
     let p = and-parts (leb n 16) (allBelow n (labelFits b at)) h in
     rw (p .0)
     (all-as (labelFits b at) (λ i. leb (getD (labelsAt b at .table) i 0) 255 && (eqb i 0 || ltb (getD (labelsAt b at .table) (i - 1) 0) (getD (labelsAt b at .table) i 0))) n
-        (λ i lt y. label-sound b at i (leb-true n 16 (p .0)) lt y) (p .1))
+    (λ i lt y. label-sound b at i (leb-true n 16 (p .0)) lt y) (p .1))
 
 guard-sound : (g : ℕ) → guardFits g ≡ true → guardSound (unlessNone g) ≡ true
 guard-sound g h =

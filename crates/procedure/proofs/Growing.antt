@@ -40,9 +40,9 @@ nodes-push : (ns : List Node) (n : Node) → nodesSound ns ≡ true → nodeSoun
 nodes-push ns n s h f =
     let test : List Node → ℕ → Bool = λ xs i. nodeSound (getD xs i blankNode) && childrenFree (take i xs) [] (childrenOf (getD xs i blankNode)) in
     let old : allBelow (length ns) (test (ns ++ n ∷ [])) ≡ true =
-        all-as (test ns) (test (ns ++ n ∷ [])) (length ns) (λ i lt y. let le : i ≤ length ns = omega arith in rw (getD-append-left ns (n ∷ []) blankNode i lt, take-append-le i ns (n ∷ []) le) y) s in
+    all-as (test ns) (test (ns ++ n ∷ [])) (length ns) (λ i lt y. let le : i ≤ length ns = omega arith in rw (getD-append-left ns (n ∷ []) blankNode i lt, take-append-le i ns (n ∷ []) le) y) s in
     let last : test (ns ++ n ∷ []) (length ns) ≡ true =
-        rw (getD-push ns n blankNode (length ns) refl, take-append-le (length ns) ns (n ∷ []) (omega arith), take-whole ns, h) f in
+    rw (getD-push ns n blankNode (length ns) refl, take-append-le (length ns) ns (n ∷ []) (omega arith), take-whole ns, h) f in
     rw length-push (all-more (test (ns ++ n ∷ [])) (length ns) old last)
   where
     take-whole : (xs : List Node) → take (length xs) xs ≡ xs
@@ -54,10 +54,10 @@ placed-push ns n a h =
     ⊎-elim
     (λ lt. rw (getD-append-left ns (n ∷ []) blankNode (a .node) lt) h)
     (λ ge.
-        let p = and-parts (ltb (a .from) (statesOf (getD ns (a .node) blankNode))) (ltb (a .to) (statesOf (getD ns (a .node) blankNode))) h in
-        let lt = ltb-true (a .from) (statesOf (getD ns (a .node) blankNode)) (p .0) in
-        let z : statesOf (getD ns (a .node) blankNode) ≡ 0 = ap statesOf (getD-past ns (a .node) blankNode ge) in
-        absurd (omega arith))
+    let p = and-parts (ltb (a .from) (statesOf (getD ns (a .node) blankNode))) (ltb (a .to) (statesOf (getD ns (a .node) blankNode))) h in
+    let lt = ltb-true (a .from) (statesOf (getD ns (a .node) blankNode)) (p .0) in
+    let z : statesOf (getD ns (a .node) blankNode) ≡ 0 = ap statesOf (getD-past ns (a .node) blankNode ge) in
+    absurd (omega arith))
     (cases-lt (a .node) (length ns))
 
 arrows-kept : (ns : List Node) (n : Node) (ws : List Arrow) → arrowsSound ns ws ≡ true → arrowsSound (ns ++ n ∷ []) ws ≡ true
@@ -81,18 +81,20 @@ node-more d n u place s h lt c =
     let y = claims-yes (d .«node_count») (drawn d .nodes) [] (childrenOf n) (d .parents) u (sym l) (s .few-nodes) (table-first d s) c in
     let t : take (d .«node_count» + 1) (set (d .nodes) (d .«node_count») n) ≡ drawn d .nodes ++ n ∷ [] = take-more-set (d .nodes) (d .«node_count») n (omega arith) in
     let many : leb (length (drawn d .nodes ++ n ∷ [])) 64 ≡ true = le-leb (length (drawn d .nodes ++ n ∷ [])) 64 (rw length-push (omega arith)) in
-    let many′ : leb (length (drawn d .arrows)) 256 ≡ true = le-leb (length (drawn d .arrows)) 256 (omega arith) in
-    ( record
-        { few-nodes = omega arith
-        ; few-arrows = s .few-arrows
-        ; node-places = length-set (d .nodes) (d .«node_count») n ∙ s .node-places
-        ; arrow-places = s .arrow-places
-        ; parent-places = y .1 .long
-        ; parents = λ k lt′. y .1 .at k lt′ ∙ ap (λ i. cond (among k (childrenOf n)) (Some i) (parentOf (drawn d .nodes) k)) (sym l) ∙ sym (parent-push (drawn d .nodes) n k) ∙ ap (λ xs. parentOf xs k) (sym t)
-        ; nodes-sound = ap nodesSound t ∙ nodes-push (drawn d .nodes) n (s .nodes-sound) h (y .0)
-        ; arrows-sound = ap (λ xs. arrowsSound xs (drawn d .arrows)) t ∙ arrows-kept (drawn d .nodes) n (drawn d .arrows) (s .arrows-sound) }
-    , (λ i. record { nodes = t i; arrows = drawn d .arrows })
-    , rw (many, many′, y .0) refl )
+    let many′ : leb (length (drawn d .arrows)) 256 ≡ true = le-leb (length (drawn d .arrows)) 256 (omega arith) in (
+      record {
+        few-nodes = omega arith;
+        few-arrows = s .few-arrows;
+        node-places = length-set (d .nodes) (d .«node_count») n ∙ s .node-places;
+        arrow-places = s .arrow-places;
+        parent-places = y .1 .long;
+        parents = λ k lt′. y .1 .at k lt′ ∙ ap (λ i. cond (among k (childrenOf n)) (Some i) (parentOf (drawn d .nodes) k)) (sym l) ∙ sym (parent-push (drawn d .nodes) n k) ∙ ap (λ xs. parentOf xs k) (sym t);
+        nodes-sound = ap nodesSound t ∙ nodes-push (drawn d .nodes) n (s .nodes-sound) h (y .0);
+        arrows-sound = ap (λ xs. arrowsSound xs (drawn d .arrows)) t ∙ arrows-kept (drawn d .nodes) n (drawn d .arrows) (s .arrows-sound);
+      },
+      (λ i. record { nodes = t i; arrows = drawn d .arrows }),
+      rw (many, many′, y .0) refl,
+    )
 
 -- there is no place for the node
 pub node-full : (d : Draft) (n : Node) (place : ℕ) → Faithful d → 64 ≤ d .«node_count»
@@ -122,7 +124,7 @@ arrows-push : (ns : List Node) (ws : List Arrow) (a : Arrow) → arrowsSound ns 
 arrows-push ns ws a s h f =
     let test : List Arrow → ℕ → Bool = λ xs j. arrowSound (getD xs j blankArrow) && arrowPlaced ns (getD xs j blankArrow) in
     let old : allBelow (length ws) (test (ws ++ a ∷ [])) ≡ true =
-        all-as (test ws) (test (ws ++ a ∷ [])) (length ws) (λ j lt y. rw (getD-append-left ws (a ∷ []) blankArrow j lt) y) s in
+    all-as (test ws) (test (ws ++ a ∷ [])) (length ws) (λ j lt y. rw (getD-append-left ws (a ∷ []) blankArrow j lt) y) s in
     let last : test (ws ++ a ∷ []) (length ws) ≡ true = rw (getD-push ws a blankArrow (length ws) refl, h) f in
     rw length-push (all-more (test (ws ++ a ∷ [])) (length ws) old last)
 
@@ -138,18 +140,20 @@ arrow-more d a place s h lt p =
     let w = s .few-nodes in
     let t : take (d .«arrow_count» + 1) (set (d .arrows) (d .«arrow_count») a) ≡ drawn d .arrows ++ a ∷ [] = take-more-set (d .arrows) (d .«arrow_count») a (omega arith) in
     let many : leb (length (drawn d .nodes)) 64 ≡ true = le-leb (length (drawn d .nodes)) 64 (omega arith) in
-    let many′ : leb (length (drawn d .arrows ++ a ∷ [])) 256 ≡ true = le-leb (length (drawn d .arrows ++ a ∷ [])) 256 (rw length-push (omega arith)) in
-    ( record
-        { few-nodes = s .few-nodes
-        ; few-arrows = omega arith
-        ; node-places = s .node-places
-        ; arrow-places = length-set (d .arrows) (d .«arrow_count») a ∙ s .arrow-places
-        ; parent-places = s .parent-places
-        ; parents = s .parents
-        ; nodes-sound = s .nodes-sound
-        ; arrows-sound = ap (arrowsSound (drawn d .nodes)) t ∙ arrows-push (drawn d .nodes) (drawn d .arrows) a (s .arrows-sound) h p }
-    , (λ i. record { nodes = drawn d .nodes; arrows = t i })
-    , rw (many, many′, p) refl )
+    let many′ : leb (length (drawn d .arrows ++ a ∷ [])) 256 ≡ true = le-leb (length (drawn d .arrows ++ a ∷ [])) 256 (rw length-push (omega arith)) in (
+      record {
+        few-nodes = s .few-nodes;
+        few-arrows = omega arith;
+        node-places = s .node-places;
+        arrow-places = length-set (d .arrows) (d .«arrow_count») a ∙ s .arrow-places;
+        parent-places = s .parent-places;
+        parents = s .parents;
+        nodes-sound = s .nodes-sound;
+        arrows-sound = ap (arrowsSound (drawn d .nodes)) t ∙ arrows-push (drawn d .nodes) (drawn d .arrows) a (s .arrows-sound) h p;
+      },
+      (λ i. record { nodes = drawn d .nodes; arrows = t i }),
+      rw (many, many′, p) refl,
+    )
 
 -- there is no place for the arrow
 pub arrow-full : (d : Draft) (a : Arrow) (place : ℕ) → Faithful d → 256 ≤ d .«arrow_count»

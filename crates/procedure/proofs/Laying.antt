@@ -82,14 +82,15 @@ laid-more b i l h w =
     let r = here-record b at h in
     let k : length (recordOf x) ≡ m = ap length r ∙ length-fields b at m in
     let f : fieldsIn (drop at b) ≡ recordOf x ++ rest =
-        fields-split b at m (omega arith) ∙ ap (λ a. a ++ fieldsIn (drop (at + 2 * m) b)) (sym r) ∙ ap (λ n. recordOf x ++ fieldsIn (drop n b)) e in
+    fields-split b at m (omega arith) ∙ ap (λ a. a ++ fieldsIn (drop (at + 2 * m) b)) (sym r) ∙ ap (λ n. recordOf x ++ fieldsIn (drop n b)) e in
     let push = records-push xs x in
-    record
-      { entries = xs ++ x ∷ []
-      ; fields = l .fields ∙ ap (λ a. recordsOf xs ++ a) f ∙ sym (append-assoc (recordsOf xs) (recordOf x) rest) ∙ ap (λ a. a ++ rest) (sym push)
-      ; bytes = omega (arith, l .bytes, ap length push, length-append (recordsOf xs) (recordOf x), k)
-      ; neat = neat-push xs x (l .neat) (h .read .neat)
-      ; draws = drawn-push nothingDrawn xs x ∙ ap (λ d. grown d (Some x)) (l .draws) ∙ ap (grown (drawnBy b i)) (sym (h .is)) }
+    record {
+      entries = xs ++ x ∷ [];
+      fields = l .fields ∙ ap (λ a. recordsOf xs ++ a) f ∙ sym (append-assoc (recordsOf xs) (recordOf x) rest) ∙ ap (λ a. a ++ rest) (sym push);
+      bytes = omega (arith, l .bytes, ap length push, length-append (recordsOf xs) (recordOf x), k);
+      neat = neat-push xs x (l .neat) (h .read .neat);
+      draws = drawn-push nothingDrawn xs x ∙ ap (λ d. grown d (Some x)) (l .draws) ∙ ap (grown (drawnBy b i)) (sym (h .is));
+    }
 
 laid-to : (b : List ℕ) (n i : ℕ) → Framed b n → i ≤ n → Laid b i
 laid-to b n zero f le = record { entries = []; fields = refl; bytes = refl; neat = tt; draws = refl }
@@ -101,12 +102,13 @@ pub laid-out : (b : List ℕ) (n : ℕ) → Framed b n → Lays b (drawnBy b n)
 laid-out b n f =
     let l = laid-to b n n f (omega arith) in
     let d : drop (startOf b n) b ≡ [] = drop-all (startOf b n) b (omega (arith, f .ends)) in
-    record
-      { entries = l .entries
-      ; fields = l .fields ∙ ap (λ r. recordsOf (l .entries) ++ fieldsIn r) d ∙ append-nil (recordsOf (l .entries))
-      ; bytes = sym (f .ends) ∙ l .bytes
-      ; neat = l .neat
-      ; draws = l .draws }
+    record {
+      entries = l .entries;
+      fields = l .fields ∙ ap (λ r. recordsOf (l .entries) ++ fieldsIn r) d ∙ append-nil (recordsOf (l .entries));
+      bytes = sym (f .ends) ∙ l .bytes;
+      neat = l .neat;
+      draws = l .draws;
+    }
 
 pub laid-once : (b : List ℕ) (n : ℕ) (d : Drawing) → Framed b n → Lays b d → d ≡ drawnBy b n
 laid-once b n d f h =

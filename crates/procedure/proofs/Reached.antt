@@ -50,21 +50,23 @@ reached-more b i at next d d′ r lt p g n le =
     let f = r .drawing in
     let l = r .low in
     let more : startOf b i < length b = omega arith in
-    record
-      { start = rw add-one (rw e at n)
-      ; passed = below-more _ _ (r .passed) (rw (← e, ← f) p)
-      ; drawing = rw add-one (rw (← e, ← f) g)
-      ; within = le
-      ; low = omega arith
-      ; counted = rw add-one (sym (records-step b i (length b - i) (length b - suc i) (omega arith) more) ∙ r .counted) }
+    record {
+      start = rw add-one (rw e at n);
+      passed = below-more _ _ (r .passed) (rw (← e, ← f) p);
+      drawing = rw add-one (rw (← e, ← f) g);
+      within = le;
+      low = omega arith;
+      counted = rw add-one (sym (records-step b i (length b - i) (length b - suc i) (omega arith) more) ∙ r .counted);
+    }
 
 -- every record was read
 pub reached-all : (b : List ℕ) (i at : ℕ) (d : Drawing) → length b ≤ 16384 → Reached b i at d → length b ≤ at → (d ≡ drawnBy b (records b)) × (refusal (fileAsks b) ≡ None)
 reached-all b i at d s r ge =
     let e = r .start in
-    let n : records b ≡ i = sym (r .counted) ∙ records-end (length b - i) b i (omega arith) in
-    ( r .drawing ∙ ap (drawnBy b) (sym n)
-    , rw (le-leb (length b) 16384 s, n) (all-asked i (λ j. recordAsks b (startOf b j) j (drawnBy b j)) (r .passed)) )
+    let n : records b ≡ i = sym (r .counted) ∙ records-end (length b - i) b i (omega arith) in (
+      r .drawing ∙ ap (drawnBy b) (sym n),
+      rw (le-leb (length b) 16384 s, n) (all-asked i (λ j. recordAsks b (startOf b j) j (drawnBy b j)) (r .passed)),
+    )
 
 -- record i is refused
 pub reached-stop : (b : List ℕ) (i at : ℕ) (d : Drawing) (f : Fault) → length b ≤ 16384 → Reached b i at d → at < length b → refusal (recordAsks b at i d) ≡ Some f → refusal (fileAsks b) ≡ Some f

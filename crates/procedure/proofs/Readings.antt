@@ -52,9 +52,12 @@ sound-whole d n a h =
     let p = refusal-parts (rootAsks d) (binderAsks d ++ scopeAsks d) h in
     let q = refusal-parts (binderAsks d) (scopeAsks d) (p .1) in
     let r = yes-first (record { question = OneRoot; place = 65535; yes = ltb 0 (length (d .nodes)) }) (askedUpTo (length (d .nodes)) (λ k. record { question = OneRoot; place = k; yes = joined (d .nodes) k } ∷ [])) (p .0) in
-    rw (n, a
-      , all-from (joined (d .nodes)) (length (d .nodes)) (each-yes OneRoot (length (d .nodes)) (joined (d .nodes)) (r .1))
-      , all-from (bindersFew (d .nodes)) (length (d .nodes)) (each-yes BindersFew (length (d .nodes)) (bindersFew (d .nodes)) (q .0)))
+    rw (
+      n,
+      a,
+      all-from (joined (d .nodes)) (length (d .nodes)) (each-yes OneRoot (length (d .nodes)) (joined (d .nodes)) (r .1)),
+      all-from (bindersFew (d .nodes)) (length (d .nodes)) (each-yes BindersFew (length (d .nodes)) (bindersFew (d .nodes)) (q .0)),
+    )
     (all-from (λ j. inScope (d .nodes) (getD (d .arrows) j blankArrow)) (length (d .arrows)) (each-yes VariablesInScope (length (d .arrows)) (λ j. inScope (d .nodes) (getD (d .arrows) j blankArrow)) (q .1)))
 
 pub sound-nothing : (d : Drawing) → d ≡ nothingDrawn → sound (d .nodes) (d .arrows) ≡ true
@@ -83,17 +86,19 @@ accepted-framed b h =
     let w : (i : ℕ) → i < records b → whole b (startOf b i) ≡ true = λ i lt. frame-parts b (startOf b i) i (refusal-parts (frameAsks b (startOf b i) i) (entryAsks (drawnBy b i) i (ranged b (startOf b i)) (entryHere b (startOf b i))) (each i lt) .0) .0 in
     let low = start-within b (records b) w in
     let high = records-reach (length b) b 0 (omega arith) in
-    record
-      { ends = omega arith
-      ; each-whole = w
-      ; each-exact = λ i lt. frame-parts b (startOf b i) i (refusal-parts (frameAsks b (startOf b i) i) (entryAsks (drawnBy b i) i (ranged b (startOf b i)) (entryHere b (startOf b i))) (each i lt) .0) .1
-      ; each-ranged = λ i lt. entry-ranged b (startOf b i) i (drawnBy b i) (refusal-parts (frameAsks b (startOf b i) i) (entryAsks (drawnBy b i) i (ranged b (startOf b i)) (entryHere b (startOf b i))) (each i lt) .1) }
+    record {
+      ends = omega arith;
+      each-whole = w;
+      each-exact = λ i lt. frame-parts b (startOf b i) i (refusal-parts (frameAsks b (startOf b i) i) (entryAsks (drawnBy b i) i (ranged b (startOf b i)) (entryHere b (startOf b i))) (each i lt) .0) .1;
+      each-ranged = λ i lt. entry-ranged b (startOf b i) i (drawnBy b i) (refusal-parts (frameAsks b (startOf b i) i) (entryAsks (drawnBy b i) i (ranged b (startOf b i)) (entryHere b (startOf b i))) (each i lt) .1);
+    }
   where
     frame-parts : (b : List ℕ) (at place : ℕ) → refusal (frameAsks b at place) ≡ None → (whole b at ≡ true) × (exact b at ≡ true)
     frame-parts b at place h =
         let p = yes-first (record { question = RecordWhole; place = place; yes = whole b at }) (record { question = KindKnown; place = place; yes = known b at } ∷ record { question = LengthExact; place = place; yes = exact b at } ∷ []) h in
         let q = yes-first (record { question = KindKnown; place = place; yes = known b at }) (record { question = LengthExact; place = place; yes = exact b at } ∷ []) (p .1) in
         (p .0, yes-first (record { question = LengthExact; place = place; yes = exact b at }) [] (q .1) .0)
+
     entry-ranged : (b : List ℕ) (at place : ℕ) (d : Drawing) → refusal (entryAsks d place (ranged b at) (entryHere b at)) ≡ None → ranged b at ≡ true
     entry-ranged b at place d h =
         and-parts (ranged b at) (few (grown d (entryHere b at))) (yes-first (record { question = FieldsInRange; place = place; yes = ranged b at && few (grown d (entryHere b at)) }) (record { question = ChildrenFree; place = place; yes = entryFree (d .nodes) (entryHere b at) } ∷ record { question = ArrowPlaced; place = place; yes = entryPlaced (d .nodes) (entryHere b at) } ∷ []) h .0) .0
@@ -128,15 +133,16 @@ module _ (b : List ℕ) where
 
   pub laid-out-exactly : (r : Result ℕ Fault) (held : Drawing) → r ≡ answerOf (reading b) → held ≡ leftBy (reading b) → LaidOutExactly b r held
   laid-out-exactly r held e l d =
-      record
-        { then = λ x.
+      record {
+        then = λ x.
             let a = accepted-exactly r e .then (ap isOk (x .0)) in
             let same : d ≡ drawnBy b (records b) = sym (x .1) ∙ l ∙ ap leftBy (accepted-reading a) in
-            (a, rw same (laid-out b (records b) (accepted-framed b (no-refusal (asks b) a))))
-        ; back = λ x.
+            (a, rw same (laid-out b (records b) (accepted-framed b (no-refusal (asks b) a))));
+        back = λ x.
             let g = accepted-reading (x .0) in
             let same : d ≡ drawnBy b (records b) = laid-once b (records b) d (accepted-framed b (no-refusal (asks b) (x .0))) (x .1) in
-            (e ∙ ap answerOf g ∙ ap (λ y. Ok (length (y .nodes))) (sym same), l ∙ ap leftBy g ∙ sym same) }
+            (e ∙ ap answerOf g ∙ ap (λ y. Ok (length (y .nodes))) (sym same), l ∙ ap leftBy g ∙ sym same);
+      }
 
   -- a refusal, and what is left then
   pub read-refused : (f : Fault) (held : Drawing) → refusal (asks b) ≡ Some f → held ≡ nothingDrawn → (Err f ≡ answerOf (reading b)) × (held ≡ leftBy (reading b))

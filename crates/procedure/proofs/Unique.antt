@@ -51,15 +51,16 @@ entryBy (Some k.Choice) r = e.Node (Choice (getD r 0 0) (getD r 1 0))
 entryBy (Some k.Synchronisation) r = e.Node (Synchronisation (getD r 0 0) (getD r 1 0) (labelsIn (drop 2 r)))
 entryBy (Some k.QuantifiedChoice) r = e.Node (QuantifiedChoice (getD r 0 0) (getD r 1 0))
 entryBy (Some k.QuantifiedSynchronisation) r = e.Node (QuantifiedSynchronisation (getD r 0 0) (getD r 1 0) (labelsIn (drop 2 r)))
-entryBy (Some k.Arrow) r = e.Arrow (record
-  { node = getD r 0 0
-  ; from = getD r 1 0
-  ; to = getD r 2 0
-  ; label = getD r 3 0
-  ; waits = eqb (getD r 4 0) 1
-  ; guard = unlessNone (getD r 5 0)
-  ; first = argumentIn (drop 6 r)
-  ; second = argumentIn (drop 2 (drop 6 r)) })
+entryBy (Some k.Arrow) r = e.Arrow (record {
+  node = getD r 0 0;
+  from = getD r 1 0;
+  to = getD r 2 0;
+  label = getD r 3 0;
+  waits = eqb (getD r 4 0) 1;
+  guard = unlessNone (getD r 5 0);
+  first = argumentIn (drop 6 r);
+  second = argumentIn (drop 2 (drop 6 r));
+})
 
 abbrev entryOf : List ℕ → Entry
 entryOf r = entryBy (kindOf (getD r 0 0)) (drop 1 r)
@@ -109,7 +110,7 @@ arrow-again a h =
     let g = option-again (a .guard) h in
     let x = argument-again (a .first) second in
     let y : argumentIn (drop 2 (argumentFields (a .first) ++ second)) ≡ a .second =
-        ap argumentIn (argument-behind (a .first) second ∙ sym (append-nil second)) ∙ argument-again (a .second) [] in
+    ap argumentIn (argument-behind (a .first) second ∙ sym (append-nil second)) ∙ argument-again (a .second) [] in
     rw (w, g, x, y) refl
 
 -- the fields of an entry tell it
@@ -137,9 +138,9 @@ records-once (x ∷ xs) (y ∷ ys) h g same =
     let n = length (fieldsOf y) in
     let m : length (fieldsOf x) ≡ n = omega arith in
     let f : fieldsOf x ≡ fieldsOf y =
-        sym (take-at (fieldsOf x) (recordsOf xs) n m) ∙ ap (take n) t ∙ take-at (fieldsOf y) (recordsOf ys) n refl in
+    sym (take-at (fieldsOf x) (recordsOf xs) n m) ∙ ap (take n) t ∙ take-at (fieldsOf y) (recordsOf ys) n refl in
     let r : recordsOf xs ≡ recordsOf ys =
-        sym (drop-at (fieldsOf x) (recordsOf xs) n m) ∙ ap (drop n) t ∙ drop-at (fieldsOf y) (recordsOf ys) n refl in
+    sym (drop-at (fieldsOf x) (recordsOf xs) n m) ∙ ap (drop n) t ∙ drop-at (fieldsOf y) (recordsOf ys) n refl in
     let p : x ≡ y = sym (entry-again x (h .0)) ∙ ap entryOf f ∙ entry-again y (g .0) in
     let q : xs ≡ ys = records-once xs ys (h .1) (g .1) r in
     cc

@@ -34,9 +34,9 @@ parent-within i [] k f p h = inl h
 parent-within i (n ∷ ns) k f p h =
     ⊎-elim
     (λ e. ⊎-elim
-        (λ t. let s : Some i ≡ Some p = sym (ap (λ b. cond b (Some i) f) t) ∙ e in let q : i ≡ p = cc in inr (omega arith))
-        (λ z. inl (sym (ap (λ b. cond b (Some i) f) z) ∙ e))
-        (cases-bool (among k (childrenOf n))))
+    (λ t. let s : Some i ≡ Some p = sym (ap (λ b. cond b (Some i) f) t) ∙ e in let q : i ≡ p = cc in inr (omega arith))
+    (λ z. inl (sym (ap (λ b. cond b (Some i) f) z) ∙ e))
+    (cases-bool (among k (childrenOf n))))
     (λ lt. inr (omega arith))
     (parent-within (suc i) ns k (cond (among k (childrenOf n)) (Some i) f) p h)
 
@@ -74,7 +74,7 @@ root-yes d m l h =
     let some : ltb 0 (length (d .nodes)) ≡ true = lt-ltb 0 (length (d .nodes)) (omega arith) in
     rw some
     (each-yes OneRoot (length (d .nodes)) (joined (d .nodes))
-        (λ k lt. ⊎-elim (λ s. h k s) (λ ge. or-left (eqb (suc k) (length (d .nodes))) (isSome (parentOf (d .nodes) k)) (eq-eqb (suc k) (length (d .nodes)) (omega arith))) (cases-lt k m)))
+    (λ k lt. ⊎-elim (λ s. h k s) (λ ge. or-left (eqb (suc k) (length (d .nodes))) (isSome (parentOf (d .nodes) k)) (eq-eqb (suc k) (length (d .nodes)) (omega arith))) (cases-lt k m)))
 
 pub root-no : (d : Drawing) (m k : ℕ) → length (d .nodes) ≡ suc m → k < m → ((j : ℕ) → j < k → joined (d .nodes) j ≡ true) → isSome (parentOf (d .nodes) k) ≡ false
     → refusal (rootAsks d) ≡ Some (record { question = OneRoot; place = k })

@@ -13,7 +13,6 @@ ghost use Rattle.procedure.specs.Drafts.{drawn, Faithful};
 ghost use Rattle.procedure.specs.Reading.{entryAsks};
 ghost use Rattle.procedure.specs.Scopes.{arrowPlaced};
 ghost use Rattle.procedure.specs.Sound.{nodeSound, arrowSound, entrySound};
-
 use crate::claim::claim_children;
 use crate::draft::Draft;
 use fault::fault::Fault;
@@ -29,8 +28,23 @@ impl Draft {
         ensures faithful { λ r. ⌜ Faithful r ⌝ }
         ensures empty { λ r. ⌜ drawn r ≡ nothingDrawn ⌝ }
     {
-        let arrow = Arrow { node: 0, from: 0, to: 0, label: 0, waits: false, guard: None, first: Argument::Absent, second: Argument::Absent };
-        Draft { nodes: [Node::Closure { body: 0 }; 64], node_count: 0, arrows: [arrow; 256], arrow_count: 0, parents: [None; 64] }
+        let arrow = Arrow {
+            node: 0,
+            from: 0,
+            to: 0,
+            label: 0,
+            waits: false,
+            guard: None,
+            first: Argument::Absent,
+            second: Argument::Absent,
+        };
+        Draft {
+            nodes: [Node::Closure { body: 0 }; 64],
+            node_count: 0,
+            arrows: [arrow; 256],
+            arrow_count: 0,
+            parents: [None; 64],
+        }
     }
 
     /// Questions 5 and 6 of a node after the others, as far as they are still open.
@@ -42,7 +56,7 @@ impl Draft {
     {
         let number = self.node_count;
         if number >= 64 {
-            return Err(Fault { question: Question::FieldsInRange, place });
+            return Err(Question::FieldsInRange.at(place));
         }
         claim_children(&mut self.parents, number as u16, &node, place)?;
         self.nodes[number] = node;
@@ -80,10 +94,10 @@ impl Draft {
     {
         let number = self.arrow_count;
         if number >= 256 {
-            return Err(Fault { question: Question::FieldsInRange, place });
+            return Err(Question::FieldsInRange.at(place));
         }
         if !self.places(&arrow) {
-            return Err(Fault { question: Question::ArrowPlaced, place });
+            return Err(Question::ArrowPlaced.at(place));
         }
         self.arrows[number] = arrow;
         self.arrow_count = number + 1;

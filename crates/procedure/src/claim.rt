@@ -7,7 +7,6 @@ ghost use Rattle.std.specs.Vec.{listOf};
 ghost use Rattle.notation.specs.Parts.{childrenOf, childrenOfStates};
 ghost use Rattle.procedure.specs.Claims.{claims, Claimed};
 ghost use Rattle.procedure.specs.Sound.{nodeSound};
-
 use fault::fault::Fault;
 use fault::fault::Question;
 use notation::node::Node;
@@ -19,13 +18,19 @@ fn claim(parents: &mut [Option<u16>], node: u16, child: u16, place: usize) -> Re
     ensures { λ r. ⌜ Claimed (claims node (now (parents .entry)) (child ∷ [])) place r (now (parents .exit)) ⌝ }
 {
     if child >= node || parents[child as usize].is_some() {
-        return Err(Fault { question: Question::ChildrenFree, place });
+        return Err(Question::ChildrenFree.at(place));
     }
     parents[child as usize] = Some(node);
     Ok(())
 }
 
-fn claim_two(parents: &mut [Option<u16>], node: u16, one: u16, other: u16, place: usize) -> Result<(), Fault>
+fn claim_two(
+    parents: &mut [Option<u16>],
+    node: u16,
+    one: u16,
+    other: u16,
+    place: usize,
+) -> Result<(), Fault>
     requires { ⌜ node ≤ length (now parents) ⌝ }
     ensures { λ r. ⌜ Claimed (claims node (now (parents .entry)) (one ∷ other ∷ [])) place r (now (parents .exit)) ⌝ }
 {
@@ -34,7 +39,12 @@ fn claim_two(parents: &mut [Option<u16>], node: u16, one: u16, other: u16, place
 }
 
 /// Claims a state's child, if it has one.
-fn claim_present(parents: &mut [Option<u16>], node: u16, child: Option<u16>, place: usize) -> Result<(), Fault>
+fn claim_present(
+    parents: &mut [Option<u16>],
+    node: u16,
+    child: Option<u16>,
+    place: usize,
+) -> Result<(), Fault>
     requires { ⌜ node ≤ length (now parents) ⌝ }
     ensures { λ r. ⌜ Claimed (claims node (now (parents .entry)) (listOf child)) place r (now (parents .exit)) ⌝ }
 {
@@ -45,7 +55,12 @@ fn claim_present(parents: &mut [Option<u16>], node: u16, child: Option<u16>, pla
 }
 
 /// Claims each child of an automaton's states.
-fn claim_states(parents: &mut [Option<u16>], node: u16, states: &[State], place: usize) -> Result<(), Fault>
+fn claim_states(
+    parents: &mut [Option<u16>],
+    node: u16,
+    states: &[State],
+    place: usize,
+) -> Result<(), Fault>
     requires { ⌜ node ≤ length (now parents) ⌝ }
     ensures { λ r. ⌜ Claimed (claims node (now (parents .entry)) (childrenOfStates (now (states .entry)))) place r (now (parents .exit)) ⌝ }
 {
@@ -56,13 +71,23 @@ fn claim_states(parents: &mut [Option<u16>], node: u16, states: &[State], place:
 }
 
 /// Question 6 of a node that is to have the number `node`.
-pub(crate) fn claim_children(parents: &mut [Option<u16>], node: u16, from: &Node, place: usize) -> Result<(), Fault>
+pub(crate) fn claim_children(
+    parents: &mut [Option<u16>],
+    node: u16,
+    from: &Node,
+    place: usize,
+) -> Result<(), Fault>
     requires { ⌜ node ≤ length (now parents) ⌝ ∗ ⌜ nodeSound (now from) ≡ true ⌝ }
     ensures { λ r. ⌜ Claimed (claims node (now (parents .entry)) (childrenOf (now (from .entry)))) place r (now (parents .exit)) ⌝ }
 {
     match from {
         Node::Closure { body } => claim(parents, node, *body, place),
-        Node::Automaton { states } => claim_states(parents, node, &states.table[0..states.count as usize], place),
+        Node::Automaton { states } => claim_states(
+            parents,
+            node,
+            &states.table[0..states.count as usize],
+            place,
+        ),
         Node::Sequence { first, second } => claim_two(parents, node, *first, *second, place),
         Node::Guard { body, .. } => claim(parents, node, *body, place),
         Node::Choice { left, right } => claim_two(parents, node, *left, *right, place),

@@ -5,7 +5,6 @@ ghost use Rattle.fault.specs.Asking.{refusal};
 ghost use Rattle.procedure.specs.Drawings.{nothingDrawn};
 ghost use Rattle.procedure.specs.Drafts.{drawn, Faithful};
 ghost use Rattle.procedure.specs.Reading.{records, drawnBy, fileAsks};
-
 use crate::draft::Draft;
 use fault::fault::Fault;
 use fault::fault::Question;
@@ -19,7 +18,7 @@ impl Draft {
             (λ f. refusal (fileAsks (now (bytes .entry))) ≡ Some f) ⌝ }
     {
         if bytes.len() > 16384 {
-            return Err(Fault { question: Question::FileWithinLimit, place: 0 });
+            return Err(Question::FileWithinLimit.at(0));
         }
         let mut at = 0;
         let mut place = 0;

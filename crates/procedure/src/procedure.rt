@@ -3,7 +3,6 @@ ghost use mathlib.Core.Path.{_≡_};
 ghost use mathlib.Core.Bool.{true};
 ghost use lib.ListN.{length, take};
 ghost use Rattle.procedure.specs.Sound.{sound};
-
 use notation::arrow::Arrow;
 use notation::node::Node;
 

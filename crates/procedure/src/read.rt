@@ -8,7 +8,6 @@ ghost use Rattle.procedure.specs.Drafts.{drawn, Faithful};
 ghost use Rattle.procedure.specs.Procedures.{drawing, RefusedExactly, AcceptedExactly, LaidOutExactly};
 ghost use Rattle.procedure.specs.Reading.{records, drawnBy, asks, reading, answerOf, leftBy};
 ghost use Rattle.procedure.specs.Sound.{sound};
-
 use crate::draft::Draft;
 use crate::procedure::Procedure;
 use fault::fault::Fault;
@@ -37,8 +36,19 @@ impl Procedure {
         requires { ⌜ Faithful draft ⌝ ∗ ⌜ sound (drawn draft .nodes) (drawn draft .arrows) ≡ true ⌝ }
         ensures { λ r. ⌜ drawing r ≡ drawn draft ⌝ }
     {
-        let Draft { nodes, node_count, arrows, arrow_count, parents: _ } = draft;
-        Procedure { nodes, node_count, arrows, arrow_count }
+        let Draft {
+            nodes,
+            node_count,
+            arrows,
+            arrow_count,
+            parents: _,
+        } = draft;
+        Procedure {
+            nodes,
+            node_count,
+            arrows,
+            arrow_count,
+        }
     }
 
     /// Reads a file in place of what the procedure held, and answers the number of nodes. A refusal leaves it empty.

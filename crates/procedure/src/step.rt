@@ -8,7 +8,6 @@ ghost use Rattle.record.specs.Bytes.{fieldAt};
 ghost use Rattle.procedure.specs.Drawings.{grown};
 ghost use Rattle.procedure.specs.Drafts.{drawn, Faithful};
 ghost use Rattle.procedure.specs.Reading.{entryHere, recordAsks};
-
 use crate::draft::Draft;
 use fault::fault::Fault;
 use record::decode::decode;

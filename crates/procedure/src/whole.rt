@@ -8,7 +8,6 @@ ghost use Rattle.notation.specs.Parts.{blankArrow};
 ghost use Rattle.procedure.specs.Drafts.{drawn, Faithful};
 ghost use Rattle.procedure.specs.Scopes.{parentOf, binderAt, bindersAbove, bindersFew, inScope};
 ghost use Rattle.procedure.specs.Reading.{rootAsks, binderAsks, scopeAsks, wholeAsks};
-
 use crate::draft::Draft;
 use fault::fault::Fault;
 use fault::fault::Question;
@@ -21,11 +20,11 @@ impl Draft {
         ensures { λ r. ⌜ Cases r (λ _. refusal (rootAsks (drawn (now (self .entry)))) ≡ None) (λ f. refusal (rootAsks (drawn (now (self .entry)))) ≡ Some f) ⌝ }
     {
         if self.node_count == 0 {
-            return Err(Fault { question: Question::OneRoot, place: 65535 });
+            return Err(Question::OneRoot.at(65535));
         }
         for k in 0..self.node_count - 1 {
             if self.parent_of(k).is_none() {
-                return Err(Fault { question: Question::OneRoot, place: k });
+                return Err(Question::OneRoot.at(k));
             }
         }
         Ok(())
@@ -80,7 +79,7 @@ impl Draft {
     {
         for k in 0..self.node_count {
             if !self.binder_fits(k) {
-                return Err(Fault { question: Question::BindersFew, place: k });
+                return Err(Question::BindersFew.at(k));
             }
         }
         Ok(())
@@ -111,7 +110,7 @@ impl Draft {
     {
         for j in 0..self.arrow_count {
             if !self.arrow_fits(j) {
-                return Err(Fault { question: Question::VariablesInScope, place: j });
+                return Err(Question::VariablesInScope.at(j));
             }
         }
         Ok(())

@@ -36,10 +36,11 @@ module _ {X : Type 0} (size : ℕ) (blank : X) (f : ℕ → X) where
   filled-more xs k v h lt e =
       let l = h .long in
       let lt′ : k < length xs = omega arith in
-      record
-        { long = length-set xs k v ∙ h .long
-        ; below = below-more _ _ (λ j s. let ne : j ≢ k = omega arith in rw getD-set-other (h .below j s)) (getD-set-same xs k v blank lt′ ∙ e)
-        ; past = λ j s. let ne : j ≢ k = omega arith in rw getD-set-other (h .past j (omega arith)) }
+      record {
+        long = length-set xs k v ∙ h .long;
+        below = below-more _ _ (λ j s. let ne : j ≢ k = omega arith in rw getD-set-other (h .below j s)) (getD-set-same xs k v blank lt′ ∙ e);
+        past = λ j s. let ne : j ≢ k = omega arith in rw getD-set-other (h .past j (omega arith));
+      }
 
   pub filled-all : (xs : List X) (n : ℕ) → Filled size blank n f xs → xs ≡ tabled size blank n f
   unfolding tabled

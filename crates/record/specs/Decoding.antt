@@ -43,30 +43,33 @@ abbrev pub stateAt : List ℕ → ℕ → State
 stateAt b at = record { mark = markOf (fieldAt b at); child = unlessNone (fieldAt b (at + 2)) }
 
 abbrev pub statesAt : List ℕ → ℕ → States
-statesAt b at = record
-  { count = fieldAt b (at + 4)
-  ; start = fieldAt b (at + 6)
-  ; table = tabled 32 blankState (fieldAt b (at + 4)) (λ i. stateAt b (at + 8 + 4 * i)) }
+statesAt b at = record {
+  count = fieldAt b (at + 4);
+  start = fieldAt b (at + 6);
+  table = tabled 32 blankState (fieldAt b (at + 4)) (λ i. stateAt b (at + 8 + 4 * i));
+}
 
 abbrev pub labelsAt : List ℕ → ℕ → Labels
-labelsAt b at = record
-  { count = fieldAt b (at + 8)
-  ; table = tabled 16 0 (fieldAt b (at + 8)) (λ i. fieldAt b (at + 10 + 2 * i)) }
+labelsAt b at = record {
+  count = fieldAt b (at + 8);
+  table = tabled 16 0 (fieldAt b (at + 8)) (λ i. fieldAt b (at + 10 + 2 * i));
+}
 
 -- two arguments, each a pair of fields, kind and value
 abbrev pub argumentsAt : List ℕ → ℕ → Argument × Argument
 argumentsAt b at = (argumentOf (fieldAt b at) (fieldAt b (at + 2)), argumentOf (fieldAt b (at + 4)) (fieldAt b (at + 6)))
 
 abbrev pub arrowAt : List ℕ → ℕ → Arrow
-arrowAt b at = record
-  { node = fieldAt b (at + 4)
-  ; from = fieldAt b (at + 6)
-  ; to = fieldAt b (at + 8)
-  ; label = fieldAt b (at + 10)
-  ; waits = eqb (fieldAt b (at + 12)) 1
-  ; guard = unlessNone (fieldAt b (at + 14))
-  ; first = argumentsAt b (at + 16) .0
-  ; second = argumentsAt b (at + 16) .1 }
+arrowAt b at = record {
+  node = fieldAt b (at + 4);
+  from = fieldAt b (at + 6);
+  to = fieldAt b (at + 8);
+  label = fieldAt b (at + 10);
+  waits = eqb (fieldAt b (at + 12)) 1;
+  guard = unlessNone (fieldAt b (at + 14));
+  first = argumentsAt b (at + 16) .0;
+  second = argumentsAt b (at + 16) .1;
+}
 
 -- the fields stand behind the length, at `at`, and the kind, at `at + 2`
 abbrev pub entryAt : Kind → List ℕ → ℕ → Entry

@@ -9,7 +9,6 @@ ghost use Rattle.record.specs.Decoding.{stateAt, statesAt, labelsAt, argumentO
 ghost use Rattle.record.specs.Ranges.{stateFits, statesFit, labelFits, labelsFit, argumentFits, argumentsFit, guardFits, arrowFits, fieldsFit};
 ghost use Rattle.record.specs.Kinds.{lengthOf, countAt};
 ghost use Rattle.fault.specs.declared.fault.Question.the-variants.{FieldsInRange};
-
 use crate::entry::Entry;
 use crate::field::at_most;
 use crate::field::field;
@@ -38,7 +37,7 @@ fn state(bytes: &[u8], at: usize, place: usize) -> Result<State, Fault>
         0 => Mark::Unmarked,
         1 => Mark::Shallow,
         2 if child.is_some() => Mark::Deep,
-        _ => return Err(Fault { question: Question::FieldsInRange, place }),
+        _ => return Err(Question::FieldsInRange.at(place)),
     };
     Ok(State { mark, child })
 }
@@ -57,7 +56,7 @@ fn argument(bytes: &[u8], at: usize, place: usize) -> Result<Argument, Fault>
         0 if value == 0 => Ok(Argument::Absent),
         2 if value == 0 => Ok(Argument::Outer),
         3 if value == 0 => Ok(Argument::Inner),
-        _ => Err(Fault { question: Question::FieldsInRange, place }),
+        _ => Err(Question::FieldsInRange.at(place)),
     }
 }
 
@@ -71,13 +70,20 @@ fn states(bytes: &[u8], at: usize, place: usize) -> Result<States, Fault>
     let count = at_most(bytes, at + 4, 32, place)?;
     let start = field(bytes, at + 6, place)?;
     if start >= count {
-        return Err(Fault { question: Question::FieldsInRange, place });
+        return Err(Question::FieldsInRange.at(place));
     }
-    let mut table = [State { mark: Mark::Unmarked, child: None }; 32];
+    let mut table = [State {
+        mark: Mark::Unmarked,
+        child: None,
+    }; 32];
     for i in 0..count as usize {
         table[i] = state(bytes, at + 8 + 4 * i, place)?;
     }
-    Ok(States { count, start, table })
+    Ok(States {
+        count,
+        start,
+        table,
+    })
 }
 
 /// The label at place `i` of the set whose count stands at `at + 8`.
@@ -91,7 +97,7 @@ fn label(bytes: &[u8], at: usize, i: usize, place: usize) -> Result<u16, Fault>
     if i > 0 {
         let before = field(bytes, at + 8 + 2 * i, place)?;
         if before >= here {
-            return Err(Fault { question: Question::FieldsInRange, place });
+            return Err(Question::FieldsInRange.at(place));
         }
     }
     Ok(here)
@@ -123,7 +129,7 @@ fn guard(bytes: &[u8], at: usize, place: usize) -> Result<Option<u16>, Fault>
     match guard {
         0..=31 => Ok(Some(guard)),
         65535 => Ok(None),
-        _ => Err(Fault { question: Question::FieldsInRange, place }),
+        _ => Err(Question::FieldsInRange.at(place)),
     }
 }
 
@@ -137,7 +143,7 @@ fn arguments(bytes: &[u8], at: usize, place: usize) -> Result<(Argument, Argumen
     let first = argument(bytes, at, place)?;
     let second = argument(bytes, at + 4, place)?;
     if first.is_absent() && !second.is_absent() {
-        return Err(Fault { question: Question::FieldsInRange, place });
+        return Err(Question::FieldsInRange.at(place));
     }
     Ok((first, second))
 }
@@ -156,7 +162,16 @@ fn decode_arrow(bytes: &[u8], at: usize, place: usize) -> Result<Arrow, Fault>
     let waits = at_most(bytes, at + 12, 1, place)? == 1;
     let guard = guard(bytes, at + 14, place)?;
     let (first, second) = arguments(bytes, at + 16, place)?;
-    Ok(Arrow { node, from, to, label, waits, guard, first, second })
+    Ok(Arrow {
+        node,
+        from,
+        to,
+        label,
+        waits,
+        guard,
+        first,
+        second,
+    })
 }
 
 /// The node or the arrow that a framed record tells: question 5, but for how many came before.
@@ -167,17 +182,33 @@ pub fn decode(bytes: &[u8], at: usize, kind: Kind, place: usize) -> Result<Entry
         (λ e. (fieldsFit kind (now (bytes .entry)) at ≡ false) × (e ≡ record { question = FieldsInRange; place = place })) ⌝ }
 {
     let node = match kind {
-        Kind::Automaton => Node::Automaton { states: states(bytes, at, place)? },
-        Kind::Sequence => Node::Sequence { first: field(bytes, at + 4, place)?, second: field(bytes, at + 6, place)? },
-        Kind::Closure => Node::Closure { body: field(bytes, at + 4, place)? },
-        Kind::Guard => Node::Guard { guard: at_most(bytes, at + 4, 31, place)?, body: field(bytes, at + 6, place)? },
-        Kind::Choice => Node::Choice { left: field(bytes, at + 4, place)?, right: field(bytes, at + 6, place)? },
+        Kind::Automaton => Node::Automaton {
+            states: states(bytes, at, place)?,
+        },
+        Kind::Sequence => Node::Sequence {
+            first: field(bytes, at + 4, place)?,
+            second: field(bytes, at + 6, place)?,
+        },
+        Kind::Closure => Node::Closure {
+            body: field(bytes, at + 4, place)?,
+        },
+        Kind::Guard => Node::Guard {
+            guard: at_most(bytes, at + 4, 31, place)?,
+            body: field(bytes, at + 6, place)?,
+        },
+        Kind::Choice => Node::Choice {
+            left: field(bytes, at + 4, place)?,
+            right: field(bytes, at + 6, place)?,
+        },
         Kind::Synchronisation => Node::Synchronisation {
             left: field(bytes, at + 4, place)?,
             right: field(bytes, at + 6, place)?,
             labels: labels(bytes, at, place)?,
         },
-        Kind::QuantifiedChoice => Node::QuantifiedChoice { over: at_most(bytes, at + 4, 7, place)?, body: field(bytes, at + 6, place)? },
+        Kind::QuantifiedChoice => Node::QuantifiedChoice {
+            over: at_most(bytes, at + 4, 7, place)?,
+            body: field(bytes, at + 6, place)?,
+        },
         Kind::QuantifiedSynchronisation => Node::QuantifiedSynchronisation {
             over: at_most(bytes, at + 4, 7, place)?,
             body: field(bytes, at + 6, place)?,

@@ -4,7 +4,6 @@ ghost use lib.ListN.{length, getD};
 ghost use Rattle.std.specs.Results.{Cases};
 ghost use Rattle.record.specs.Bytes.{fieldAt};
 ghost use Rattle.fault.specs.declared.fault.Question.the-variants.{RecordWhole, FieldsInRange};
-
 use fault::fault::Fault;
 use fault::fault::Question;
 
@@ -15,7 +14,7 @@ pub(crate) fn field(bytes: &[u8], at: usize, place: usize) -> Result<u16, Fault>
         (λ e. (length (now (bytes .entry)) < at + 2) × (e ≡ record { question = RecordWhole; place = place })) ⌝ }
 {
     if at >= bytes.len() || bytes.len() - at < 2 {
-        return Err(Fault { question: Question::RecordWhole, place });
+        return Err(Question::RecordWhole.at(place));
     }
     Ok(bytes[at] as u16 + bytes[at + 1] as u16 * 256)
 }
@@ -29,7 +28,7 @@ pub(crate) fn at_most(bytes: &[u8], at: usize, top: u16, place: usize) -> Result
 {
     let v = field(bytes, at, place)?;
     if v > top {
-        return Err(Fault { question: Question::FieldsInRange, place });
+        return Err(Question::FieldsInRange.at(place));
     }
     Ok(v)
 }

@@ -8,7 +8,6 @@ ghost use Rattle.fault.specs.Asking.{refusal};
 ghost use Rattle.record.specs.Bytes.{fieldAt};
 ghost use Rattle.record.specs.Kinds.{kindOf, lengthOf, countAt, shortestOf};
 ghost use Rattle.record.specs.Frames.{whole, known, exact, frameAsks};
-
 use crate::field::field;
 use crate::kind::Kind;
 use fault::fault::Fault;
@@ -80,17 +79,20 @@ pub fn framed(bytes: &[u8], at: usize, place: usize) -> Result<Frame, Fault>
     let len = field(bytes, at, place)? as usize;
     let code = field(bytes, at + 2, place)?;
     if len < 2 || bytes.len() - at - 2 < len {
-        return Err(Fault { question: Question::RecordWhole, place });
+        return Err(Question::RecordWhole.at(place));
     }
     let Some(kind) = Kind::of(code) else {
-        return Err(Fault { question: Question::KindKnown, place });
+        return Err(Question::KindKnown.at(place));
     };
     if len < kind.length(0) {
-        return Err(Fault { question: Question::LengthExact, place });
+        return Err(Question::LengthExact.at(place));
     }
     let n = count(bytes, at, kind, place)?;
     if len != kind.length(n) {
-        return Err(Fault { question: Question::LengthExact, place });
+        return Err(Question::LengthExact.at(place));
     }
-    Ok(Frame { kind, end: at + 2 + len })
+    Ok(Frame {
+        kind,
+        end: at + 2 + len,
+    })
 }

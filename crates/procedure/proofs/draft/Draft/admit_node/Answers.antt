@@ -7,6 +7,7 @@ use Rattle.procedure.proofs.draft.Draft.admit_node.Needs as need
 
 pub returns-then-number-ge64 : need.returns-then-number-ge64
 returns-then-number-ge64 c = node-full (c .args .self .now) (c .args .node) (c .args .place) (c .pre .0) (omega arith)
+    ∙ ap Some (sym (c .at .ensures .is-this-question-at-the-place))
 
 pub returns-in-Break-claim-children : need.returns-in-Break-claim-children
 returns-in-Break-claim-children c =

@@ -31,11 +31,12 @@ loop-step-again c =
     let l = nodes-length (c .args .self .now) (c .pre .0) in
     let few = c .pre .0 .few-nodes in
     let p = parent-below ns (c .loop-step .at) (c .in-Some .parent) (sym (c .in-Some .ensures tt)) in
-    let s = binder-small ns (c .in-Some .parent) in
-    ( above-more ns (c .args .self .now .«node_count» - c .loop-step .step) (c .args .self .now .«node_count» - (c .loop-step .step + 1)) (c .loop-step .at) (c .in-Some .parent) (c .loop-step .above) (c .binder-at-above .result) (bindersAbove ns (c .args .node))
-        (omega arith) (sym (c .in-Some .ensures tt)) (c .binder-at-above .ensures) (c .loop-step .inv .0)
-    , omega arith
-    , omega (arith, c .binder-at-above .ensures) )
+    let s = binder-small ns (c .in-Some .parent) in (
+      above-more ns (c .args .self .now .«node_count» - c .loop-step .step) (c .args .self .now .«node_count» - (c .loop-step .step + 1)) (c .loop-step .at) (c .in-Some .parent) (c .loop-step .above) (c .binder-at-above .result) (bindersAbove ns (c .args .node))
+          (omega arith) (sym (c .in-Some .ensures tt)) (c .binder-at-above .ensures) (c .loop-step .inv .0),
+      omega arith,
+      omega (arith, c .binder-at-above .ensures),
+    )
 
 pub returns : need.returns
 returns c = above-all (drawn (c .args .self .now) .nodes) (c .args .self .now .«node_count» - c .loop-step .step) (c .loop-step .at) (c .loop-step .above) (bindersAbove (drawn (c .args .self .now) .nodes) (c .args .node)) (omega arith) (c .loop-step .inv .0)

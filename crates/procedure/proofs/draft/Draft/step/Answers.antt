@@ -43,9 +43,10 @@ returns c =
     let f = c .in-Continue-frame .ensures tt in
     let g = c .in-Continue-entry .ensures tt in
     let h = rw (g .1) at (c .in-Continue-admit .ensures tt) in
-    let d = entry-decides (c .args .bytes .now) (c .args .at) (c .args .place) (c .in-Continue-frame .frame .kind) (f .0) (f .1) (f .2) (drawn (c .args .self .now)) (g .0) in
-    ( h .0
-    , h .1 ∙ ap (grown (drawn (c .args .self .now))) (sym (here-is (c .args .bytes .now) (c .args .at) (c .in-Continue-frame .frame .kind) (f .1)))
-    , d ∙ h .2
-    , f .3
-    , rw (f .3) (whole-is (c .args .bytes .now) (c .args .at) (f .0)) )
+    let d = entry-decides (c .args .bytes .now) (c .args .at) (c .args .place) (c .in-Continue-frame .frame .kind) (f .0) (f .1) (f .2) (drawn (c .args .self .now)) (g .0) in (
+      h .0,
+      h .1 ∙ ap (grown (drawn (c .args .self .now))) (sym (here-is (c .args .bytes .now) (c .args .at) (c .in-Continue-frame .frame .kind) (f .1))),
+      d ∙ h .2,
+      f .3,
+      rw (f .3) (whole-is (c .args .bytes .now) (c .args .at) (f .0)),
+    )
