@@ -1,6 +1,5 @@
 ghost use Rattle.std.specs.declared.option.Option.the-variants.{Some};
 ghost use Rattle.logger.specs.Texts.{acceptedLine};
-
 use std::fmt;
 
 /// The first line of a sound file.

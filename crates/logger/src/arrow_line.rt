@@ -2,7 +2,6 @@ ghost use mathlib.Core.Path.{_≡_};
 ghost use denote.Ref.{now};
 ghost use Rattle.std.specs.declared.option.Option.the-variants.{Some};
 ghost use Rattle.logger.specs.Texts.{waitText, guardText, roadText, arrowLine};
-
 use crate::label::Label;
 use crate::label::LabelDisplay;
 use notation::arrow::Arrow;
@@ -20,9 +19,20 @@ pub impl fmt::Display for ArrowLine<'_> as ArrowLineDisplay {
 
     fn fmt<W: fmt::Write>(&self, f: &mut fmt::Formatter<W>) -> fmt::Result {
         let number = self.number;
-        let Arrow { label, first, second, waits, guard, .. } = *self.arrow;
+        let Arrow {
+            label,
+            first,
+            second,
+            waits,
+            guard,
+            ..
+        } = *self.arrow;
         let road = Road(self.arrow);
-        let label = Label { number: label, first, second };
+        let label = Label {
+            number: label,
+            first,
+            second,
+        };
         let wait = wait_text(waits);
         let guard = GuardText(guard);
         write!(f, "arrow {number}: {road} on {label}, {wait}, {guard}")

@@ -1,7 +1,6 @@
 ghost use mathlib.Core.Path.{_≡_};
 ghost use Rattle.std.specs.declared.option.Option.the-variants.{Some};
 ghost use Rattle.logger.specs.Texts.{refusedLine, questionText, answerText, reasonLine};
-
 use fault::fault::Fault;
 use fault::fault::Question;
 use std::fmt;
@@ -45,7 +44,8 @@ fn question_text(question: Question) -> &'static str
         Question::RecordWhole => "Is the record whole, with a length of at least 2?",
         Question::KindKnown => "Is the kind one of 1 to 9?",
         Question::LengthExact => "Has the record exactly the length of its kind and count?",
-        Question::FieldsInRange => "Are all fields in range, with at most 64 nodes and 256 arrows so far?",
+        Question::FieldsInRange =>
+            "Are all fields in range, with at most 64 nodes and 256 arrows so far?",
         Question::ChildrenFree => "Is each child below its node and nobody's child yet?",
         Question::ArrowPlaced => "Does the arrow name an earlier automaton and two states of it?",
         Question::OneRoot => "Is there a node, and is every node but the root a child?",

@@ -1,6 +1,5 @@
 ghost use Rattle.std.specs.declared.option.Option.the-variants.{Some};
 ghost use Rattle.logger.specs.Texts.{argumentText, labelText};
-
 use notation::arrow::Argument;
 use std::fmt;
 
@@ -16,13 +15,22 @@ pub impl fmt::Display for Label as LabelDisplay {
     ghost shown = { λ x. Some (labelText (x .number) (x .first) (x .second)) };
 
     fn fmt<W: fmt::Write>(&self, f: &mut fmt::Formatter<W>) -> fmt::Result {
-        let Label { number, first, second } = *self;
+        let Label {
+            number,
+            first,
+            second,
+        } = *self;
         if first.is_absent() {
             write!(f, "{number}")
         } else if second.is_absent() {
             write!(f, "{number}({})", ArgumentText(first))
         } else {
-            write!(f, "{number}({},{})", ArgumentText(first), ArgumentText(second))
+            write!(
+                f,
+                "{number}({},{})",
+                ArgumentText(first),
+                ArgumentText(second)
+            )
         }
     }
 }

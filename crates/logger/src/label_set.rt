@@ -1,7 +1,6 @@
 ghost use denote.Ref.{now};
 ghost use Rattle.std.specs.declared.option.Option.the-variants.{Some};
 ghost use Rattle.logger.specs.Texts.{each, furtherLabel, labelSetText};
-
 use crate::table::front;
 use notation::node::Labels;
 use std::fmt;

@@ -38,7 +38,14 @@ impl fmt::Display for NodeLines<'_> as NodeLinesDisplay {
             let Some(node) = self.0.node(number) else {
                 return Ok(());
             };
-            writeln!(f, "{}", NodeLine { number, node: &node })?;
+            writeln!(
+                f,
+                "{}",
+                NodeLine {
+                    number,
+                    node: &node
+                }
+            )?;
         }
         Ok(())
     }
@@ -55,7 +62,14 @@ impl fmt::Display for ArrowLines<'_> as ArrowLinesDisplay {
             let Some(arrow) = self.0.arrow(number) else {
                 return Ok(());
             };
-            writeln!(f, "{}", ArrowLine { number, arrow: &arrow })?;
+            writeln!(
+                f,
+                "{}",
+                ArrowLine {
+                    number,
+                    arrow: &arrow
+                }
+            )?;
         }
         Ok(())
     }

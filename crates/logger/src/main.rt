@@ -38,7 +38,11 @@ fn tell(rt: &LibcRuntime, path: &str) -> Result<(), AnyError> {
     };
     let report = reported(rt.alloc(), &bytes)?;
     print!(rt, "{}", report.text)?;
-    if report.sound { Ok(()) } else { Err("the file is refused".into()) }
+    if report.sound {
+        Ok(())
+    } else {
+        Err("the file is refused".into())
+    }
 }
 
 fn main(rt: LibcRuntime) -> Result<(), AnyError> {

@@ -1,7 +1,6 @@
 ghost use denote.Ref.{now};
 ghost use Rattle.std.specs.declared.option.Option.the-variants.{Some};
 ghost use Rattle.logger.specs.Texts.{nodeText, nodeLine};
-
 use crate::label_set::LabelSet;
 use crate::label_set::LabelSetDisplay;
 use crate::state_list::StateList;
@@ -33,7 +32,12 @@ impl fmt::Display for NodeText<'_> as NodeTextDisplay {
     fn fmt<W: fmt::Write>(&self, f: &mut fmt::Formatter<W>) -> fmt::Result {
         match self.0 {
             Node::Automaton { states } => {
-                write!(f, "automaton, start {}, {}", states.start, StateList(states))
+                write!(
+                    f,
+                    "automaton, start {}, {}",
+                    states.start,
+                    StateList(states)
+                )
             }
             Node::Sequence { first, second } => {
                 write!(f, "sequence, first {first}, second {second}")
@@ -41,14 +45,26 @@ impl fmt::Display for NodeText<'_> as NodeTextDisplay {
             Node::Closure { body } => write!(f, "closure, body {body}"),
             Node::Guard { guard, body } => write!(f, "guard {guard}, body {body}"),
             Node::Choice { left, right } => write!(f, "choice, left {left}, right {right}"),
-            Node::Synchronisation { left, right, labels } => {
-                write!(f, "synchronisation, left {left}, right {right}, {}", LabelSet(labels))
+            Node::Synchronisation {
+                left,
+                right,
+                labels,
+            } => {
+                write!(
+                    f,
+                    "synchronisation, left {left}, right {right}, {}",
+                    LabelSet(labels)
+                )
             }
             Node::QuantifiedChoice { over, body } => {
                 write!(f, "quantified choice, type {over}, body {body}")
             }
             Node::QuantifiedSynchronisation { over, body, labels } => {
-                write!(f, "quantified synchronisation, type {over}, body {body}, {}", LabelSet(labels))
+                write!(
+                    f,
+                    "quantified synchronisation, type {over}, body {body}, {}",
+                    LabelSet(labels)
+                )
             }
         }
     }

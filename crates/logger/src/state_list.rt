@@ -2,7 +2,6 @@ ghost use mathlib.Core.Path.{_≡_};
 ghost use denote.Ref.{now};
 ghost use Rattle.std.specs.declared.option.Option.the-variants.{Some};
 ghost use Rattle.logger.specs.Texts.{each, markText, stateText, furtherState, statesText};
-
 use crate::table::front;
 use notation::node::Mark;
 use notation::node::State;
@@ -20,7 +19,10 @@ pub impl fmt::Display for StateList<'_> as StateListDisplay {
         match front(&self.0.table, self.0.count) {
             [] => f.write_str("no states"),
             [state, rest @ ..] => {
-                let first = NumberedState { number: 0, state: *state };
+                let first = NumberedState {
+                    number: 0,
+                    state: *state,
+                };
                 write!(f, "states {first}{}", FurtherStates(rest))
             }
         }
@@ -36,7 +38,10 @@ impl fmt::Display for FurtherStates<'_> as FurtherStatesDisplay {
 
     fn fmt<W: fmt::Write>(&self, f: &mut fmt::Formatter<W>) -> fmt::Result {
         for (i, state) in self.0.iter().enumerate() {
-            let next = NumberedState { number: i + 1, state: *state };
+            let next = NumberedState {
+                number: i + 1,
+                state: *state,
+            };
             write!(f, ", {next}")?;
         }
         Ok(())

@@ -6,5 +6,9 @@ pub fn front<T>(table: &[T], count: u16) -> &[T]
     ensures { λ r. ⌜ now r ≡ take count (now (table .entry)) ⌝ }
 {
     let count = usize::from(count);
-    if count < table.len() { &table[0..count] } else { table }
+    if count < table.len() {
+        &table[0..count]
+    } else {
+        table
+    }
 }

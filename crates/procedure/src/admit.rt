@@ -22,6 +22,10 @@ use notation::arrow::Arrow;
 use notation::node::Node;
 use record::entry::Entry;
 
+const MOST_NODES: usize = 64;
+
+const MOST_ARROWS: usize = 256;
+
 impl Draft {
     /// A draft that holds nothing.
     pub(crate) fn empty() -> Draft
@@ -55,7 +59,7 @@ impl Draft {
             (λ f. refusal (entryAsks (drawn (now (self .entry))) place true (Some (of-node node))) ≡ Some f) ⌝ }
     {
         let number = self.node_count;
-        if number >= 64 {
+        if number >= MOST_NODES {
             return Err(Question::FieldsInRange.at(place));
         }
         claim_children(&mut self.parents, number as u16, &node, place)?;
@@ -93,7 +97,7 @@ impl Draft {
             (λ f. refusal (entryAsks (drawn (now (self .entry))) place true (Some (of-arrow arrow))) ≡ Some f) ⌝ }
     {
         let number = self.arrow_count;
-        if number >= 256 {
+        if number >= MOST_ARROWS {
             return Err(Question::FieldsInRange.at(place));
         }
         if !self.places(&arrow) {

@@ -9,6 +9,8 @@ use crate::draft::Draft;
 use fault::fault::Fault;
 use fault::fault::Question;
 
+const MOST_BYTES: usize = 16_384;
+
 impl Draft {
     /// Questions 1 to 7: reads one record after the other into an empty draft.
     pub(crate) fn fill(&mut self, bytes: &[u8]) -> Result<(), Fault>
@@ -17,7 +19,7 @@ impl Draft {
             (λ _. Faithful (now (self .exit)) × (drawn (now (self .exit)) ≡ drawnBy (now (bytes .entry)) (records (now (bytes .entry)))) × (refusal (fileAsks (now (bytes .entry))) ≡ None))
             (λ f. refusal (fileAsks (now (bytes .entry))) ≡ Some f) ⌝ }
     {
-        if bytes.len() > 16384 {
+        if bytes.len() > MOST_BYTES {
             return Err(Question::FileWithinLimit.at(0));
         }
         let mut at = 0;

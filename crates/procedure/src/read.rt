@@ -50,7 +50,27 @@ impl Procedure {
             arrow_count,
         }
     }
+}
 
+/// What a file gives: a procedure, empty where the file is refused, and the answer.
+fn given(file: &[u8]) -> (Procedure, Result<usize, Fault>)
+    ensures answer { λ r. ⌜ r .1 ≡ answerOf (reading (now (file .entry))) ⌝ }
+    ensures contents { λ r. ⌜ drawing (r .0) ≡ leftBy (reading (now (file .entry))) ⌝ }
+    ensures refused { λ r. ⌜ RefusedExactly (now (file .entry)) (r .1) ⌝ }
+    ensures accepted { λ r. ⌜ AcceptedExactly (now (file .entry)) (r .1) ⌝ }
+    ensures laid_out { λ r. ⌜ LaidOutExactly (now (file .entry)) (r .1) (drawing (r .0)) ⌝ }
+{
+    match drafted(file) {
+        Ok(draft) => {
+            let procedure = Procedure::of(draft);
+            let nodes = procedure.node_count;
+            (procedure, Ok(nodes))
+        }
+        Err(fault) => (Procedure::new(), Err(fault)),
+    }
+}
+
+impl Procedure {
     /// Reads a file in place of what the procedure held, and answers the number of nodes. A refusal leaves it empty.
     pub fn read(&mut self, file: &[u8]) -> Result<usize, Fault>
         ensures answers_as_the_questions_say { λ r. ⌜ r ≡ answerOf (reading (now (file .entry))) ⌝ }
@@ -59,9 +79,8 @@ impl Procedure {
         ensures accepts_exactly_all_yes { λ r. ⌜ AcceptedExactly (now (file .entry)) r ⌝ }
         ensures gives_exactly_what_is_laid_out { λ r. ⌜ LaidOutExactly (now (file .entry)) r (drawing (now (self .exit))) ⌝ }
     {
-        *self = Procedure::new();
-        let draft = drafted(file)?;
-        *self = Procedure::of(draft);
-        Ok(self.node_count)
+        let (procedure, answer) = given(file);
+        *self = procedure;
+        answer
     }
 }

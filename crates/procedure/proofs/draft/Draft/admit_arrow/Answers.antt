@@ -4,8 +4,8 @@ use Rattle.std.specs.declared.option.Option.the-variants.{Some}
 use Rattle.procedure.proofs.Growing.{arrow-more, arrow-full, arrow-stray}
 use Rattle.procedure.proofs.draft.Draft.admit_arrow.Needs as need
 
-pub returns-then-number-ge256 : need.returns-then-number-ge256
-returns-then-number-ge256 c = arrow-full (c .args .self .now) (c .args .arrow) (c .args .place) (c .pre .0) (omega arith)
+pub returns-then-number-ge-MOST-ARROWS : need.returns-then-number-ge-MOST-ARROWS
+returns-then-number-ge-MOST-ARROWS c = arrow-full (c .args .self .now) (c .args .arrow) (c .args .place) (c .pre .0) (omega arith)
     ∙ ap Some (sym (c .at .ensures .is-this-question-at-the-place))
 
 pub returns-then-not-places : need.returns-then-not-places

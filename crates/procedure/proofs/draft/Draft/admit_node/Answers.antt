@@ -5,8 +5,8 @@ use Rattle.std.proofs.shelf.Results.{err-from-errBy}
 use Rattle.procedure.proofs.Growing.{node-more, node-full, node-taken}
 use Rattle.procedure.proofs.draft.Draft.admit_node.Needs as need
 
-pub returns-then-number-ge64 : need.returns-then-number-ge64
-returns-then-number-ge64 c = node-full (c .args .self .now) (c .args .node) (c .args .place) (c .pre .0) (omega arith)
+pub returns-then-number-ge-MOST-NODES : need.returns-then-number-ge-MOST-NODES
+returns-then-number-ge-MOST-NODES c = node-full (c .args .self .now) (c .args .node) (c .args .place) (c .pre .0) (omega arith)
     ∙ ap Some (sym (c .at .ensures .is-this-question-at-the-place))
 
 pub returns-in-Break-claim-children : need.returns-in-Break-claim-children
