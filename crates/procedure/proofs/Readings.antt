@@ -29,7 +29,7 @@ use Rattle.procedure.specs.Framed.{Framed}
 use Rattle.procedure.specs.Layout.{Lays}
 use Rattle.procedure.specs.Procedures.{Exactly, RefusedExactly, AcceptedExactly, LaidOutExactly}
 use Rattle.procedure.specs.Reading.{startOf, recordsFrom, records, entryHere, drawnBy, ranged, few, entryFree, entryPlaced, entryAsks, recordAsks, rootAsks, binderAsks, scopeAsks, wholeAsks, fileAsks, asks, readingAs, reading, answerOf, leftBy, Refused, Accepted}
-use Rattle.procedure.specs.Scopes.{joined, bindersFew, inScope}
+use Rattle.procedure.specs.Scopes.{attached, bindersFew, inScope}
 use Rattle.procedure.specs.Sound.{nodesSound, arrowsSound, wholeSound, sound}
 use Rattle.procedure.proofs.Laying.{laid-out, laid-once}
 use Rattle.procedure.proofs.Stepping.{whole-is}
@@ -51,11 +51,11 @@ unfolding sound
 sound-whole d n a h =
     let p = refusal-parts (rootAsks d) (binderAsks d ++ scopeAsks d) h in
     let q = refusal-parts (binderAsks d) (scopeAsks d) (p .1) in
-    let r = yes-first (record { question = OneRoot; place = 65535; yes = ltb 0 (length (d .nodes)) }) (askedUpTo (length (d .nodes)) (λ k. record { question = OneRoot; place = k; yes = joined (d .nodes) k } ∷ [])) (p .0) in
+    let r = yes-first (record { question = OneRoot; place = 65535; yes = ltb 0 (length (d .nodes)) }) (askedUpTo (length (d .nodes)) (λ k. record { question = OneRoot; place = k; yes = attached (d .nodes) k } ∷ [])) (p .0) in
     rw (
       n,
       a,
-      all-from (joined (d .nodes)) (length (d .nodes)) (each-yes OneRoot (length (d .nodes)) (joined (d .nodes)) (r .1)),
+      all-from (attached (d .nodes)) (length (d .nodes)) (each-yes OneRoot (length (d .nodes)) (attached (d .nodes)) (r .1)),
       all-from (bindersFew (d .nodes)) (length (d .nodes)) (each-yes BindersFew (length (d .nodes)) (bindersFew (d .nodes)) (q .0)),
     )
     (all-from (λ j. inScope (d .nodes) (getD (d .arrows) j blankArrow)) (length (d .arrows)) (each-yes VariablesInScope (length (d .arrows)) (λ j. inScope (d .nodes) (getD (d .arrows) j blankArrow)) (q .1)))

@@ -24,7 +24,7 @@ use Rattle.record.proofs.Below.{all-at}
 use Rattle.procedure.specs.Drafts.{drawn, Faithful}
 use Rattle.procedure.specs.Drawings.{Drawing}
 use Rattle.procedure.specs.Reading.{rootAsks}
-use Rattle.procedure.specs.Scopes.{among, parentFrom, parentOf, binderAt, bindersFrom, bindersWithin, bindersAbove, arrowPlaced, joined}
+use Rattle.procedure.specs.Scopes.{among, parentFrom, parentOf, binderAt, bindersFrom, bindersWithin, bindersAbove, arrowPlaced, attached}
 use Rattle.procedure.specs.Sound.{arrowSound, arrowsSound}
 use Rattle.procedure.specs.declared.draft.Draft.{Draft}
 use Rattle.procedure.proofs.Growing.{nodes-length, arrows-length}
@@ -65,23 +65,23 @@ pub one-no : (q : Question) (n i : ℕ) (f : ℕ → Bool) → i < n → ((k : �
 one-no q n i f lt h z =
     first-asked n i (λ k. record { question = q; place = k; yes = f k } ∷ []) (record { question = q; place = i }) lt (λ k l. rw (h k l) refl) (rw z refl)
 
-pub joined-child : (ns : List Node) (k : ℕ) → isSome (parentOf ns k) ≡ true → joined ns k ≡ true
-joined-child ns k h = or-right (eqb (suc k) (length ns)) (isSome (parentOf ns k)) h
+pub attached-child : (ns : List Node) (k : ℕ) → isSome (parentOf ns k) ≡ true → attached ns k ≡ true
+attached-child ns k h = or-right (eqb (suc k) (length ns)) (isSome (parentOf ns k)) h
 
 -- every node but the last is a child
-pub root-yes : (d : Drawing) (m : ℕ) → length (d .nodes) ≡ suc m → ((k : ℕ) → k < m → joined (d .nodes) k ≡ true) → refusal (rootAsks d) ≡ None
+pub root-yes : (d : Drawing) (m : ℕ) → length (d .nodes) ≡ suc m → ((k : ℕ) → k < m → attached (d .nodes) k ≡ true) → refusal (rootAsks d) ≡ None
 root-yes d m l h =
     let some : ltb 0 (length (d .nodes)) ≡ true = lt-ltb 0 (length (d .nodes)) (omega arith) in
     rw some
-    (each-yes OneRoot (length (d .nodes)) (joined (d .nodes))
+    (each-yes OneRoot (length (d .nodes)) (attached (d .nodes))
     (λ k lt. ⊎-elim (λ s. h k s) (λ ge. or-left (eqb (suc k) (length (d .nodes))) (isSome (parentOf (d .nodes) k)) (eq-eqb (suc k) (length (d .nodes)) (omega arith))) (cases-lt k m)))
 
-pub root-no : (d : Drawing) (m k : ℕ) → length (d .nodes) ≡ suc m → k < m → ((j : ℕ) → j < k → joined (d .nodes) j ≡ true) → isSome (parentOf (d .nodes) k) ≡ false
+pub root-no : (d : Drawing) (m k : ℕ) → length (d .nodes) ≡ suc m → k < m → ((j : ℕ) → j < k → attached (d .nodes) j ≡ true) → isSome (parentOf (d .nodes) k) ≡ false
     → refusal (rootAsks d) ≡ Some (record { question = OneRoot; place = k })
 root-no d m k l lt h z =
     let some : ltb 0 (length (d .nodes)) ≡ true = lt-ltb 0 (length (d .nodes)) (omega arith) in
-    let lone : joined (d .nodes) k ≡ false = or-from (eqb (suc k) (length (d .nodes))) (isSome (parentOf (d .nodes) k)) (ne-eqb (suc k) (length (d .nodes)) (λ e. let c = l in omega arith)) z in
-    rw some (one-no OneRoot (length (d .nodes)) k (joined (d .nodes)) (omega arith) h lone)
+    let lone : attached (d .nodes) k ≡ false = or-from (eqb (suc k) (length (d .nodes))) (isSome (parentOf (d .nodes) k)) (ne-eqb (suc k) (length (d .nodes)) (λ e. let c = l in omega arith)) z in
+    rw some (one-no OneRoot (length (d .nodes)) k (attached (d .nodes)) (omega arith) h lone)
 
 -- an arrow's automaton is one of the nodes
 pub arrow-node : (d : Draft) (j : ℕ) → Faithful d → j < d .«arrow_count» → getD (drawn d .arrows) j blankArrow .node < d .«node_count»

@@ -24,7 +24,7 @@ use Rattle.record.specs.declared.kind.Kind.{Kind}
 use Rattle.record.specs.declared.entry.Entry.{Entry}
 use Rattle.record.specs.declared.entry.Entry.the-variants as e
 use Rattle.procedure.specs.Drawings.{Drawing, nothingDrawn, grown}
-use Rattle.procedure.specs.Scopes.{childrenFree, arrowPlaced, joined, bindersFew, inScope}
+use Rattle.procedure.specs.Scopes.{childrenFree, arrowPlaced, attached, bindersFew, inScope}
 
 -- where record i begins: a record takes its length field and the bytes that this counts
 abbrev pub startOf : List ℕ → ℕ → ℕ
@@ -89,7 +89,7 @@ recordAsks b at place d = frameAsks b at place ++ entryAsks d place (ranged b at
 abbrev pub rootAsks : Drawing → List Asked
 rootAsks d =
     record { question = OneRoot; place = 65535; yes = ltb 0 (length (d .nodes)) }
-    ∷ askedUpTo (length (d .nodes)) (λ k. record { question = OneRoot; place = k; yes = joined (d .nodes) k } ∷ [])
+    ∷ askedUpTo (length (d .nodes)) (λ k. record { question = OneRoot; place = k; yes = attached (d .nodes) k } ∷ [])
 
 -- question 9 of each node
 abbrev pub binderAsks : Drawing → List Asked

@@ -50,8 +50,8 @@ abbrev pub arrowPlaced : List Node → Arrow → Bool
 arrowPlaced ns a = ltb (a .from) (statesOf (getD ns (a .node) blankNode)) && ltb (a .to) (statesOf (getD ns (a .node) blankNode))
 
 -- question 8 at node k: it is the root, or a child
-abbrev pub joined : List Node → ℕ → Bool
-joined ns k = eqb (suc k) (length ns) || isSome (parentOf ns k)
+abbrev pub attached : List Node → ℕ → Bool
+attached ns k = eqb (suc k) (length ns) || isSome (parentOf ns k)
 
 -- question 9 at node k: a binder is under at most one other
 abbrev pub bindersFew : List Node → ℕ → Bool

@@ -19,7 +19,7 @@ use Rattle.notation.specs.declared.arrow.Arrow.{Arrow}
 use Rattle.record.specs.Ranges.{allBelow}
 use Rattle.record.specs.declared.entry.Entry.{Entry}
 use Rattle.record.specs.declared.entry.Entry.the-variants as e
-use Rattle.procedure.specs.Scopes.{childrenFree, arrowPlaced, joined, bindersFew, inScope}
+use Rattle.procedure.specs.Scopes.{childrenFree, arrowPlaced, attached, bindersFew, inScope}
 
 -- only a state with a child is marked deep
 abbrev pub markSound : Mark → Option ℕ → Bool
@@ -73,7 +73,7 @@ arrowsSound ns as′ = allBelow (length as′) (λ j. arrowSound (getD as′ j b
 -- every node but the last is a child, no binder is under two others, and every arrow's variables are in scope
 abbrev pub wholeSound : List Node → List Arrow → Bool
 wholeSound ns as′ =
-    allBelow (length ns) (joined ns) && (allBelow (length ns) (bindersFew ns) && allBelow (length as′) (λ j. inScope ns (getD as′ j blankArrow)))
+    allBelow (length ns) (attached ns) && (allBelow (length ns) (bindersFew ns) && allBelow (length as′) (λ j. inScope ns (getD as′ j blankArrow)))
 
 -- a procedure that was read; one that holds nothing is sound too
 unfoldable pub sound : List Node → List Arrow → Bool

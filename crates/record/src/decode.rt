@@ -177,7 +177,7 @@ fn decode_arrow(bytes: &[u8], at: usize, place: usize) -> Result<Arrow, Fault>
 /// The node or the arrow that a framed record tells: question 5, but for how many came before.
 pub fn decode(bytes: &[u8], at: usize, kind: Kind, place: usize) -> Result<Entry, Fault>
     requires { ⌜ at + 2 + lengthOf kind (countAt kind (now bytes) at) ≤ length (now bytes) ⌝ }
-    ensures { λ r. ⌜ Cases r
+    ensures tells_the_entry_or_that_a_field_is_out_of_range { λ r. ⌜ Cases r
         (λ v. (fieldsFit kind (now (bytes .entry)) at ≡ true) × (v ≡ entryAt kind (now (bytes .entry)) at))
         (λ e. (fieldsFit kind (now (bytes .entry)) at ≡ false) × (e ≡ record { question = FieldsInRange; place = place })) ⌝ }
 {

@@ -72,7 +72,7 @@ fn count(bytes: &[u8], at: usize, kind: Kind, place: usize) -> Result<u16, Fault
 /// Questions 2 to 4 of the record at `at`.
 pub fn framed(bytes: &[u8], at: usize, place: usize) -> Result<Frame, Fault>
     requires { ⌜ length (now bytes) ≤ 16384 ⌝ ∗ ⌜ at < length (now bytes) ⌝ }
-    ensures { λ r. ⌜ Cases r
+    ensures frames_the_record_or_says_the_first_no { λ r. ⌜ Cases r
         (λ f. (whole (now (bytes .entry)) at ≡ true) × (kindOf (fieldAt (now (bytes .entry)) (at + 2)) ≡ Some (f .kind)) × (exact (now (bytes .entry)) at ≡ true) × (f .end ≡ at + 2 + fieldAt (now (bytes .entry)) at))
         (λ e. refusal (frameAsks (now (bytes .entry)) at place) ≡ Some e) ⌝ }
 {

@@ -11,4 +11,4 @@ use Rattle.logger.proofs.state_list.StateListDisplay.fmt.Needs as need
 pub returns-in-len1-up : need.returns-in-len1-up
 returns-in-len1-up g c plain ok =
     let some : 0 < length (c .front .result .now) = search needs in
-    put-is ((g .W·Write) .took) _ _ _ _ (ap stateListText (sym (first-rest (c .front .result .now) blankState some) ∙ c .front .ensures)) (c .write .ensures .shows plain ok)
+    put-is ((g .W·Write) .took) _ _ _ _ (ap stateListText (sym (first-rest (c .front .result .now) blankState some) ∙ c .front .ensures .is-the-part-in-use)) (c .write .ensures .shows plain ok)

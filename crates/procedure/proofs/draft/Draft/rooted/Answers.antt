@@ -8,7 +8,7 @@ use Rattle.std.specs.declared.option.Option.the-variants.{Some}
 use Rattle.procedure.specs.Drafts.{drawn}
 use Rattle.procedure.specs.Scopes.{parentOf}
 use Rattle.procedure.proofs.Growing.{nodes-length}
-use Rattle.procedure.proofs.Wholes.{root-yes, root-no, joined-child}
+use Rattle.procedure.proofs.Wholes.{root-yes, root-no, attached-child}
 use Rattle.procedure.proofs.draft.Draft.rooted.Needs as need
 
 pub returns-then-is-none : need.returns-then-is-none
@@ -19,7 +19,7 @@ returns-then-is-none c =
     ∙ ap Some (sym (c .at-then-is-none .ensures .is-this-question-at-the-place))
 
 pub loop-k-again : need.loop-k-again
-loop-k-again c = below-more _ _ (c .loop-k .inv) (joined-child (drawn (c .args .self .now) .nodes) (c .loop-k .k) (rw (c .parent-of .ensures) at (c .if-is-none .ensures tt)))
+loop-k-again c = below-more _ _ (c .loop-k .inv) (attached-child (drawn (c .args .self .now) .nodes) (c .loop-k .k) (rw (c .parent-of .ensures) at (c .if-is-none .ensures tt)))
 
 pub returns : need.returns
 returns c =
