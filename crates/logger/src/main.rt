@@ -1,14 +1,5 @@
 //! Reads a procedure file, and tells what it holds or why it is refused.
-mod accepted_line;
-mod arrow_line;
-mod fault_line;
-mod label;
-mod label_set;
-mod listing;
-mod node_line;
 mod report;
-mod state_list;
-mod table;
 
 use crate::report::reported;
 use std::env;

@@ -3,16 +3,16 @@ ghost use Rattle.std.specs.Of.String.{string-bytes};
 ghost use Rattle.std.specs.Results.{isOk};
 ghost use Rattle.std.specs.Vec.{made};
 ghost use Rattle.procedure.specs.Reading.{reading};
-ghost use Rattle.logger.specs.Reports.{reportText};
-use crate::fault_line::ReasonLine;
-use crate::fault_line::ReasonLineDisplay;
-use crate::fault_line::RefusedLine;
-use crate::fault_line::RefusedLineDisplay;
-use crate::listing::Listing;
-use crate::listing::ListingDisplay;
+ghost use Rattle.text.specs.Reports.{reportText};
 use procedure::procedure::Procedure;
 use std::alloc::AllocError;
 use std::alloc::Global;
+use text::fault_line::ReasonLine;
+use text::fault_line::ReasonLineDisplay;
+use text::fault_line::RefusedLine;
+use text::fault_line::RefusedLineDisplay;
+use text::listing::Listing;
+use text::listing::ListingDisplay;
 
 /// What the program says of a file, and whether the file is sound.
 #[derive(Drop)]
