@@ -5,6 +5,7 @@ use Rattle.fault.specs.declared.fault.Question.the-variants.{FileWithinLimit, 
 use Rattle.fault.specs.declared.fault.Layer.{Layer}
 use Rattle.fault.specs.declared.fault.Layer.the-variants.{Reading, Opening, Running, Settings}
 
+-- the number of a question
 abbrev pub numberOf : Question → ℕ
 numberOf FileWithinLimit = 1
 numberOf RecordWhole = 2
@@ -26,6 +27,7 @@ numberOf SuccessorsWithinCeiling = 17
 numberOf MenuWithinList = 18
 numberOf SettingInRange = 19
 
+-- the layer in which a question is asked
 abbrev pub layerOf : Question → Layer
 layerOf FileWithinLimit = Reading
 layerOf RecordWhole = Reading
@@ -47,6 +49,7 @@ layerOf SuccessorsWithinCeiling = Running
 layerOf MenuWithinList = Running
 layerOf SettingInRange = Settings
 
+-- the number of a layer
 abbrev pub layerNumberOf : Layer → ℕ
 layerNumberOf Reading = 1
 layerNumberOf Opening = 2

@@ -17,9 +17,11 @@ use Rattle.notation.specs.declared.arrow.Argument.the-variants.{Absent, Consta
 abbrev pub blankState : State
 blankState = record { mark = Unmarked; child = None }
 
+-- the same in a table of nodes
 abbrev pub blankNode : Node
 blankNode = Closure 0
 
+-- the same in a table of arrows
 abbrev pub blankArrow : Arrow
 blankArrow = record { node = 0; from = 0; to = 0; label = 0; waits = false; guard = None; first = Absent; second = Absent }
 
@@ -68,6 +70,7 @@ bindersFor (Constant value) = 0
 bindersFor Outer = 1
 bindersFor Inner = 2
 
+-- whether an argument is asked for at all
 abbrev pub isAbsent : Argument → Bool
 isAbsent Absent = true
 isAbsent (Constant value) = false

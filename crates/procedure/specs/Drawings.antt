@@ -8,10 +8,12 @@ use Rattle.notation.specs.declared.arrow.Arrow.{Arrow}
 use Rattle.record.specs.declared.entry.Entry.{Entry}
 use Rattle.record.specs.declared.entry.Entry.the-variants as e
 
+-- the nodes and the arrows, each in the order of their numbers
 pub record Drawing : Type 0 where
   pub nodes : List Node
   pub arrows : List Arrow
 
+-- no node and no arrow
 abbrev pub nothingDrawn : Drawing
 nothingDrawn = record { nodes = []; arrows = [] }
 

@@ -27,6 +27,7 @@ fieldsIn [] = []
 fieldsIn (low ∷ []) = []
 fieldsIn (low ∷ high ∷ bytes) = (low + 256 * high) ∷ fieldsIn bytes
 
+-- a mark by its number
 abbrev pub markField : Mark → ℕ
 markField Unmarked = 0
 markField Shallow = 1
@@ -71,6 +72,7 @@ fieldsOf (e.Arrow a) =
 abbrev pub recordOf : Entry → List ℕ
 recordOf x = 2 * length (fieldsOf x) ∷ fieldsOf x
 
+-- one record after the other
 abbrev pub recordsOf : List Entry → List ℕ
 recordsOf [] = []
 recordsOf (x ∷ xs) = recordOf x ++ recordsOf xs
@@ -86,6 +88,7 @@ abbrev pub Written : Option ℕ → Type 0
 Written None = Unit {0}
 Written (Some k) = k ≡ 65535 → ⊥
 
+-- an entry as a file can lay it out: blank where nothing is in use, and 65,535 nowhere as a number
 abbrev pub NeatEntry : Entry → Type 0
 NeatEntry (e.Node (Automaton s)) = Neat 32 blankState (s .count) (s .table) × ((k : ℕ) → Written (getD (s .table) k blankState .child))
 NeatEntry (e.Node (Sequence first second)) = Unit {0}
@@ -97,6 +100,7 @@ NeatEntry (e.Node (QuantifiedChoice over body)) = Unit {0}
 NeatEntry (e.Node (QuantifiedSynchronisation over body labels)) = Neat 16 0 (labels .count) (labels .table)
 NeatEntry (e.Arrow a) = Written (a .guard)
 
+-- the same of each entry
 abbrev pub NeatEntries : List Entry → Type 0
 NeatEntries [] = Unit {0}
 NeatEntries (x ∷ xs) = NeatEntry x × NeatEntries xs

@@ -31,6 +31,7 @@ abbrev pub startOf : List ℕ → ℕ → ℕ
 startOf b zero = 0
 startOf b (suc i) = startOf b i + 2 + fieldAt b (startOf b i)
 
+-- the first record from i on, among as many as there are steps, that would begin at the file's end or behind it
 abbrev pub recordsFrom : ℕ → List ℕ → ℕ → ℕ
 recordsFrom zero b i = i
 recordsFrom (suc steps) b i = cond (ltb (startOf b i) (length b)) (recordsFrom steps b (suc i)) i
@@ -39,6 +40,7 @@ recordsFrom (suc steps) b i = cond (ltb (startOf b i) (length b)) (recordsFrom s
 abbrev pub records : List ℕ → ℕ
 records b = recordsFrom (length b) b 0
 
+-- what a record of a kind tells
 abbrev pub entryAs : Option Kind → List ℕ → ℕ → Option Entry
 entryAs None b at = None
 entryAs (Some k) b at = Some (entryAt k b at)
@@ -52,6 +54,7 @@ abbrev pub drawnBy : List ℕ → ℕ → Drawing
 drawnBy b zero = nothingDrawn
 drawnBy b (suc i) = grown (drawnBy b i) (entryHere b (startOf b i))
 
+-- whether the fields of a record of a kind are in range
 abbrev pub rangedAs : Option Kind → List ℕ → ℕ → Bool
 rangedAs None b at = false
 rangedAs (Some k) b at = fieldsFit k b at
@@ -64,11 +67,13 @@ ranged b at = rangedAs (kindOf (fieldAt b (at + 2))) b at
 abbrev pub few : Drawing → Bool
 few d = leb (length (d .nodes)) 64 && leb (length (d .arrows)) 256
 
+-- question 6 of an entry after the nodes ns; an arrow passes
 abbrev pub entryFree : List Node → Option Entry → Bool
 entryFree ns None = true
 entryFree ns (Some (e.Node n)) = childrenFree ns [] (childrenOf n)
 entryFree ns (Some (e.Arrow a)) = true
 
+-- question 7 of an entry after the nodes ns; a node passes
 abbrev pub entryPlaced : List Node → Option Entry → Bool
 entryPlaced ns None = true
 entryPlaced ns (Some (e.Node n)) = true
@@ -99,9 +104,11 @@ binderAsks d = askedUpTo (length (d .nodes)) (λ k. record { question = BindersF
 abbrev pub scopeAsks : Drawing → List Asked
 scopeAsks d = askedUpTo (length (d .arrows)) (λ j. record { question = VariablesInScope; place = j; yes = inScope (d .nodes) (getD (d .arrows) j blankArrow) } ∷ [])
 
+-- questions 8, 9 and 10, each of everything before the next
 abbrev pub wholeAsks : Drawing → List Asked
 wholeAsks d = rootAsks d ++ (binderAsks d ++ scopeAsks d)
 
+-- questions 2 to 7 of the first n records, one record after the other
 abbrev pub recordsAsks : List ℕ → ℕ → List Asked
 recordsAsks b n = askedUpTo n (λ i. recordAsks b (startOf b i) i (drawnBy b i))
 
@@ -113,6 +120,7 @@ fileAsks b = record { question = FileWithinLimit; place = 0; yes = leb (length b
 unfoldable pub asks : List ℕ → List Asked
 asks b = fileAsks b ++ wholeAsks (drawnBy b (records b))
 
+-- a reading by its first no, if there is one
 abbrev pub readingAs : Option Fault → Drawing → Result Drawing Fault
 readingAs None d = Ok d
 readingAs (Some f) d = Err f

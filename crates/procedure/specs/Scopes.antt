@@ -16,6 +16,7 @@ abbrev pub among : ℕ → List ℕ → Bool
 among k [] = false
 among k (x ∷ xs) = eqb x k || among k xs
 
+-- the last of the nodes ns, numbered from i, that has k as a child; the one found before, if none has
 abbrev pub parentFrom : ℕ → List Node → ℕ → Option ℕ → Option ℕ
 parentFrom i [] k found = found
 parentFrom i (n ∷ ns) k found = parentFrom (suc i) ns k (cond (among k (childrenOf n)) (Some i) found)
@@ -24,9 +25,11 @@ parentFrom i (n ∷ ns) k found = parentFrom (suc i) ns k (cond (among k (childr
 abbrev pub parentOf : List Node → ℕ → Option ℕ
 parentOf ns k = parentFrom 0 ns k None
 
+-- 1 for a binder, 0 for any other node
 abbrev pub binderAt : List Node → ℕ → ℕ
 binderAt ns i = cond (binds (getD ns i blankNode)) 1 0
 
+-- the binders from a parent on, if there is one, where `above` says how many are above each node
 abbrev pub bindersFrom : (ℕ → ℕ) → List Node → Option ℕ → ℕ
 bindersFrom above ns None = 0
 bindersFrom above ns (Some i) = binderAt ns i + above i

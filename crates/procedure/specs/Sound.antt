@@ -50,6 +50,7 @@ nodeSound (Synchronisation left right labels) = labelsSound labels
 nodeSound (QuantifiedChoice over body) = leb over 7
 nodeSound (QuantifiedSynchronisation over body labels) = leb over 7 && labelsSound labels
 
+-- a guard is at most 31
 abbrev pub guardSound : Option ℕ → Bool
 guardSound None = true
 guardSound (Some guard) = leb guard 31
@@ -58,6 +59,7 @@ guardSound (Some guard) = leb guard 31
 abbrev pub arrowSound : Arrow → Bool
 arrowSound a = leb (a .label) 255 && (guardSound (a .guard) && (isAbsent (a .second) || not (isAbsent (a .first))))
 
+-- the parts of an entry are in range
 abbrev pub entrySound : Entry → Bool
 entrySound (e.Node n) = nodeSound n
 entrySound (e.Arrow a) = arrowSound a

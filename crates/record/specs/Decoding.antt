@@ -42,6 +42,7 @@ tabled size blank n f = map (λ i. cond (ltb i n) (f i) blank) (counting 0 size)
 abbrev pub stateAt : List ℕ → ℕ → State
 stateAt b at = record { mark = markOf (fieldAt b at); child = unlessNone (fieldAt b (at + 2)) }
 
+-- count, start, and a pair of fields for each state
 abbrev pub statesAt : List ℕ → ℕ → States
 statesAt b at = record {
   count = fieldAt b (at + 4);
@@ -49,6 +50,7 @@ statesAt b at = record {
   table = tabled 32 blankState (fieldAt b (at + 4)) (λ i. stateAt b (at + 8 + 4 * i));
 }
 
+-- a set of labels: its count, and a field for each
 abbrev pub labelsAt : List ℕ → ℕ → Labels
 labelsAt b at = record {
   count = fieldAt b (at + 8);
@@ -59,6 +61,7 @@ labelsAt b at = record {
 abbrev pub argumentsAt : List ℕ → ℕ → Argument × Argument
 argumentsAt b at = (argumentOf (fieldAt b at) (fieldAt b (at + 2)), argumentOf (fieldAt b (at + 4)) (fieldAt b (at + 6)))
 
+-- the ten fields of an arrow
 abbrev pub arrowAt : List ℕ → ℕ → Arrow
 arrowAt b at = record {
   node = fieldAt b (at + 4);

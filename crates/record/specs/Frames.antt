@@ -22,6 +22,7 @@ whole b at = leb (at + 4) (length b) && (leb 2 (fieldAt b at) && leb (at + 2 + f
 abbrev pub known : List ℕ → ℕ → Bool
 known b at = isSome (kindOf (fieldAt b (at + 2)))
 
+-- the length is that of a record of the kind and its count
 abbrev pub exactAs : Option Kind → List ℕ → ℕ → Bool
 exactAs None b at = false
 exactAs (Some k) b at = eqb (fieldAt b at) (lengthOf k (countAt k b at))

@@ -28,6 +28,7 @@ lengthOf QuantifiedChoice n = 6
 lengthOf QuantifiedSynchronisation n = 8 + 2 * n
 lengthOf Arrow n = 22
 
+-- the least length of a record of a kind
 abbrev pub shortestOf : Kind → ℕ
 shortestOf k = lengthOf k 0
 

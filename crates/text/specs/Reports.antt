@@ -11,9 +11,11 @@ use Rattle.notation.specs.declared.arrow.Arrow.{Arrow}
 use Rattle.procedure.specs.Drawings.{Drawing}
 use Rattle.text.specs.Texts.{_⌢_, each, nodeLine, arrowLine, acceptedLine, refusedLine, reasonLine}
 
+-- the line of a node, with its end
 abbrev pub nodeRow : ℕ → Node → List ℕ
 nodeRow number node = nodeLine number node ⌢ codes "\n"
 
+-- the line of an arrow, with its end
 abbrev pub arrowRow : ℕ → Arrow → List ℕ
 arrowRow number arrow = arrowLine number arrow ⌢ codes "\n"
 
@@ -25,6 +27,7 @@ nodeLines d = each nodeRow 0 (d .nodes)
 abbrev pub arrowLines : Drawing → List ℕ
 arrowLines d = each arrowRow 0 (d .arrows)
 
+-- what is said of a sound file
 abbrev pub listing : Drawing → List ℕ
 listing d = acceptedLine (length (d .nodes)) (length (d .arrows)) ⌢ codes "\n" ⌢ nodeLines d ⌢ arrowLines d
 

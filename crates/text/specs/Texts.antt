@@ -41,6 +41,7 @@ argumentText (Constant value) = decimal value
 argumentText Outer = codes "outer"
 argumentText Inner = codes "inner"
 
+-- the label, and in brackets its arguments, if there are any
 abbrev pub labelText : ℕ → Argument → Argument → List ℕ
 labelText number first second =
     cond (isAbsent first) (decimal number)
@@ -51,10 +52,12 @@ labelText number first second =
 abbrev pub furtherLabel : ℕ → ℕ → List ℕ
 furtherLabel n label = codes ", " ⌢ decimal label
 
+-- labels with commas between them
 abbrev pub labelsText : List ℕ → List ℕ
 labelsText [] = codes "no labels"
 labelsText (label ∷ labels) = codes "labels " ⌢ decimal label ⌢ each furtherLabel 1 labels
 
+-- the labels that are in use
 abbrev pub labelSetText : Labels → List ℕ
 labelSetText labels = labelsText (take (labels .count) (labels .table))
 
@@ -64,20 +67,25 @@ markText Unmarked = []
 markText Shallow = codes " shallow"
 markText Deep = codes " deep"
 
+-- a state's child, if it has one
 abbrev pub childText : Option ℕ → List ℕ
 childText None = []
 childText (Some child) = codes " child " ⌢ decimal child
 
+-- a state: its number, its mark and its child
 abbrev pub stateText : ℕ → State → List ℕ
 stateText number state = decimal number ⌢ markText (state .mark) ⌢ childText (state .child)
 
+-- a state behind another
 abbrev pub furtherState : ℕ → State → List ℕ
 furtherState number state = codes ", " ⌢ stateText number state
 
+-- states with commas between them, numbered from 0
 abbrev pub stateListText : List State → List ℕ
 stateListText [] = codes "no states"
 stateListText (state ∷ states) = codes "states " ⌢ stateText 0 state ⌢ each furtherState 1 states
 
+-- the states that are in use
 abbrev pub statesText : States → List ℕ
 statesText states = stateListText (take (states .count) (states .table))
 
@@ -92,6 +100,7 @@ nodeText (Synchronisation left right labels) = codes "synchronisation, left " �
 nodeText (QuantifiedChoice over body) = codes "quantified choice, type " ⌢ decimal over ⌢ codes ", body " ⌢ decimal body
 nodeText (QuantifiedSynchronisation over body labels) = codes "quantified synchronisation, type " ⌢ decimal over ⌢ codes ", body " ⌢ decimal body ⌢ codes ", " ⌢ labelSetText labels
 
+-- a node with its number
 abbrev pub nodeLine : ℕ → Node → List ℕ
 nodeLine number node = codes "node " ⌢ decimal number ⌢ codes ": " ⌢ nodeText node
 
@@ -100,13 +109,16 @@ abbrev pub waitText : Bool → List ℕ
 waitText true = codes "wait"
 waitText false = codes "no wait"
 
+-- an arrow's guard, if it has one
 abbrev pub guardText : Option ℕ → List ℕ
 guardText None = codes "no guard"
 guardText (Some guard) = codes "guard " ⌢ decimal guard
 
+-- where an arrow leads
 abbrev pub roadText : Arrow → List ℕ
 roadText arrow = codes "automaton " ⌢ decimal (arrow .node) ⌢ codes ", from " ⌢ decimal (arrow .from) ⌢ codes " to " ⌢ decimal (arrow .to)
 
+-- an arrow with its number
 abbrev pub arrowLine : ℕ → Arrow → List ℕ
 arrowLine number arrow =
     codes "arrow " ⌢ decimal number ⌢ codes ": " ⌢ roadText arrow
@@ -145,15 +157,19 @@ questionText SuccessorsWithinCeiling = codes "Are the different successors withi
 questionText MenuWithinList = codes "Has the caller's list a place for each event of the menu?"
 questionText SettingInRange = codes "Is each field of the setting in range?"
 
+-- a no that concerns a record
 abbrev pub notRecord : ℕ → List ℕ
 notRecord place = codes "No, not record " ⌢ decimal place ⌢ codes " (counted from 0)."
 
+-- a no that concerns a part of a record
 abbrev pub notInRecord : ℕ → List ℕ
 notInRecord place = codes "No, not in record " ⌢ decimal place ⌢ codes " (counted from 0)."
 
+-- any other no, with its place
 abbrev pub noAt : ℕ → List ℕ
 noAt place = codes "No, at " ⌢ decimal place ⌢ codes "."
 
+-- the answer to each question, with its place
 abbrev pub answerText : Question → ℕ → List ℕ
 answerText FileWithinLimit place = codes "No."
 answerText RecordWhole place = notRecord place
@@ -175,5 +191,6 @@ answerText SuccessorsWithinCeiling place = noAt place
 answerText MenuWithinList place = noAt place
 answerText SettingInRange place = noAt place
 
+-- the question and its answer
 abbrev pub reasonLine : Fault → List ℕ
 reasonLine fault = questionText (fault .question) ⌢ codes " " ⌢ answerText (fault .question) (fault .place)
