@@ -1,5 +1,7 @@
 //! Reads a procedure file, and tells what it holds or why it is refused.
 mod report;
+#[cfg(test)]
+mod tests;
 
 use crate::report::reported;
 use std::env;

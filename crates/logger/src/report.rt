@@ -21,7 +21,7 @@ pub struct Report {
     pub sound: bool,
 }
 
-/// Reads a file, and tells what it holds or why it is refused. The only failure is want of memory.
+/// Reads a file, and tells what it holds or why it is refused. An `Err` stands for want of memory; the contract cannot say when that is.
 pub fn reported(heap: Global, file: &[u8]) -> Result<Report, AllocError>
     ensures says_what_the_reading_gives { λ r. ⌜ made r (λ x. string-bytes (x .text) ≡ reportText (reading (now (file .entry)))) ⌝ }
     ensures says_whether_it_is_sound { λ r. ⌜ made r (λ x. x .sound ≡ isOk (reading (now (file .entry)))) ⌝ }
