@@ -1,0 +1,5 @@
+pub mod Fitted
+pub mod Laws
+pub mod Steps
+pub mod Then
+pub mod Used

@@ -1,0 +1,98 @@
+ghost use mathlib.Core.Path.{_≡_};
+ghost use Prim.Native.Nat.{_<_, _≤_};
+ghost use lib.ListN.{length, getD, set, take, drop};
+ghost use Rattle.std.specs.Results.{Cases};
+ghost use Rattle.std.specs.shelf.Lists.{inserted};
+ghost use Rattle.std.specs.shelf.Maps.{nth};
+ghost use Rattle.ordered.specs.Order.{kept, spills, StaysRising, HoldsNothingElse, HoldsExactly, LeavesOutAbove};
+ghost use Rattle.ordered.specs.Seeking.{MetAt, ComesAt};
+use crate::rank::Rank;
+use std::cmp::Ordering;
+
+/// Where x is met, or else where it comes in.
+fn seek<T: Rank>(xs: &[T], x: &T) -> Result<usize, usize>
+    ensures { λ r. ⌜ Cases r (MetAt rank (now (xs .entry)) (now (x .entry))) (ComesAt rank (now (xs .entry)) (now (x .entry))) ⌝ }
+{
+    for (i, y) in xs.iter().enumerate() {
+        match x.compare(y) {
+            Ordering::Less => return Err(i),
+            Ordering::Equal => return Ok(i),
+            Ordering::Greater => {}
+        }
+    }
+    Err(xs.len())
+}
+
+/// Puts x at i, and gives what stood there.
+fn exchange<T: Copy>(places: &mut [T], i: usize, x: T) -> T
+    requires { ⌜ i < length (now places) ⌝ }
+    ensures gives { λ r. ⌜ r ≡ getD (now (places .entry)) i r ⌝ }
+    ensures puts { λ _. ⌜ now (places .exit) ≡ set (now (places .entry)) i x ⌝ }
+{
+    let y = places[i];
+    places[i] = x;
+    y
+}
+
+/// Moves the elements from `at` up to `end` one place up, with x at `at`, and gives the one that leaves.
+fn shift<T: Copy>(places: &mut [T], at: usize, end: usize, x: T) -> T
+    requires { ⌜ at ≤ end ⌝ ∗ ⌜ end ≤ length (now places) ⌝ }
+    ensures { λ r. ⌜ inserted (now (places .exit)) end r ≡ inserted (now (places .entry)) at x ⌝ }
+{
+    let mut hole = x;
+    for i in at..end {
+        hole = exchange(places, i, hole);
+    }
+    hole
+}
+
+/// Puts x at its place among the first `len`, unless it is there, and gives the new count and whether one was left out.
+fn put<T: Rank + Copy>(places: &mut [T], len: usize, x: T) -> (usize, bool)
+    requires { ⌜ len ≤ length (now places) ⌝ }
+    ensures fits { λ r. ⌜ r .0 ≤ length (now (places .exit)) ⌝ }
+    ensures held { λ r. ⌜ take (r .0) (now (places .exit)) ≡ kept rank (length (now (places .entry))) (take len (now (places .entry))) x ⌝ }
+    ensures later { λ r. ⌜ drop (r .0) (now (places .exit)) ≡ drop (r .0) (now (places .entry)) ⌝ }
+    ensures over { λ r. ⌜ r .1 ≡ spills rank (length (now (places .entry))) (take len (now (places .entry))) x ⌝ }
+{
+    let room = places.len();
+    match seek(&places[0..len], &x) {
+        Ok(_) => (len, false),
+        Err(at) => {
+            let end = if len < room { len + 1 } else { room };
+            shift(places, at, end, x);
+            (end, len == room)
+        }
+    }
+}
+
+/// How many of the first `used` places there are.
+pub(crate) fn count<T>(places: &[T], used: usize) -> usize
+    ensures { λ r. ⌜ r ≡ length (take used (now (places .entry))) ⌝ }
+{
+    used.min(places.len())
+}
+
+/// The element at i of the first `used` places, absent past them.
+pub(crate) fn pick<T: Copy>(places: &[T], used: usize, i: usize) -> Option<T>
+    ensures { λ r. ⌜ r ≡ nth (take used (now (places .entry))) i ⌝ }
+{
+    if i < count(places, used) {
+        Some(places[i])
+    } else {
+        None
+    }
+}
+
+/// Puts x among the first `used` places, with all that is promised of it.
+pub(crate) fn place<T: Rank + Copy>(places: &mut [T], used: usize, x: T) -> (usize, bool)
+    ensures held { λ r. ⌜ take (r .0) (now (places .exit)) ≡ kept rank (length (now (places .entry))) (take used (now (places .entry))) x ⌝ }
+    ensures over { λ r. ⌜ r .1 ≡ spills rank (length (now (places .entry))) (take used (now (places .entry))) x ⌝ }
+    ensures later { λ r. ⌜ drop (length (take (r .0) (now (places .exit)))) (now (places .exit)) ≡ drop (length (take (r .0) (now (places .exit)))) (now (places .entry)) ⌝ }
+    ensures rises { λ r. ⌜ StaysRising rank (take used (now (places .entry))) (take (r .0) (now (places .exit))) ⌝ }
+    ensures only { λ r. ⌜ HoldsNothingElse (take used (now (places .entry))) x (take (r .0) (now (places .exit))) ⌝ }
+    ensures exactly { λ r. ⌜ HoldsExactly (take used (now (places .entry))) x (take (r .0) (now (places .exit))) (r .1) ⌝ }
+    ensures above { λ r. ⌜ LeavesOutAbove rank (take used (now (places .entry))) x (take (r .0) (now (places .exit))) ⌝ }
+{
+    let len = count(places, used);
+    put(places, len, x)
+}
