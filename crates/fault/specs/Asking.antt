@@ -5,6 +5,8 @@ use mathlib.Core.List.{List, [], _∷_, _++_}
 use mathlib.Core.Path.{_≡_}
 use Rattle.std.specs.declared.option.Option.{Option}
 use Rattle.std.specs.declared.option.Option.the-variants.{Some, None}
+use Rattle.std.specs.declared.result.Result.{Result}
+use Rattle.std.specs.declared.result.Result.the-variants.{Ok, Err}
 use Rattle.fault.specs.declared.fault.Fault.{Fault}
 use Rattle.fault.specs.declared.fault.Question.{Question}
 
@@ -35,3 +37,13 @@ pub record FirstNo (asked : List Asked) (f : Fault) : Type 0 where
 abbrev pub askedUpTo : ℕ → (ℕ → List Asked) → List Asked
 askedUpTo zero f = []
 askedUpTo (suc n) f = askedUpTo n f ++ f n
+
+-- one question of the fields of a call, one after the other; the place is the field's number, here from i on
+abbrev pub askedOfFields : Question → ℕ → List Bool → List Asked
+askedOfFields q i [] = []
+askedOfFields q i (fits ∷ more) = record { question = q; place = i; yes = fits } ∷ askedOfFields q (suc i) more
+
+-- what a call answers: the fault of the first no, or else x
+abbrev pub answerOr : {X : Type 0} → Option Fault → X → Result X Fault
+answerOr None x = Ok x
+answerOr (Some f) x = Err f

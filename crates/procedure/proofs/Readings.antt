@@ -13,7 +13,7 @@ use Rattle.std.specs.declared.option.Option.the-variants.{Some, None}
 use Rattle.std.specs.declared.result.Result.{Result}
 use Rattle.std.specs.declared.result.Result.the-variants.{Ok, Err}
 use Rattle.std.proofs.shelf.Tests.{cases-bool, and-parts, and-from, ltb-true, ltb-false}
-use Rattle.fault.specs.Asking.{Asked, refusal, askedUpTo}
+use Rattle.fault.specs.Asking.{Asked, refusal, askedUpTo, answerOr}
 use Rattle.fault.specs.declared.fault.Fault.{Fault}
 use Rattle.fault.specs.declared.fault.Question.{Question}
 use Rattle.fault.specs.declared.fault.Question.the-variants.{FileWithinLimit, RecordWhole, KindKnown, LengthExact, FieldsInRange, ChildrenFree, ArrowPlaced, OneRoot, BindersFew, VariablesInScope}
@@ -28,7 +28,7 @@ use Rattle.procedure.specs.Drawings.{Drawing, nothingDrawn, grown}
 use Rattle.procedure.specs.Framed.{Framed}
 use Rattle.procedure.specs.Layout.{Lays}
 use Rattle.procedure.specs.Procedures.{Exactly, RefusedExactly, AcceptedExactly, LaidOutExactly}
-use Rattle.procedure.specs.Reading.{startOf, recordsFrom, records, entryHere, drawnBy, ranged, few, entryFree, entryPlaced, entryAsks, recordAsks, rootAsks, binderAsks, scopeAsks, wholeAsks, fileAsks, asks, readingAs, reading, answerOf, leftBy, Refused, Accepted}
+use Rattle.procedure.specs.Reading.{startOf, recordsFrom, records, entryHere, drawnBy, ranged, few, entryFree, entryPlaced, entryAsks, recordAsks, rootAsks, binderAsks, scopeAsks, wholeAsks, fileAsks, asks, reading, answerOf, leftBy, Refused, Accepted}
 use Rattle.procedure.specs.Scopes.{attached, bindersFew, inScope}
 use Rattle.procedure.specs.Sound.{nodesSound, arrowsSound, wholeSound, sound}
 use Rattle.procedure.proofs.Laying.{laid-out, laid-once}
@@ -110,22 +110,22 @@ none-some : {f : Fault} → None ≡ Some f → ⊥
 none-some e = let z : _≡_ {A = ℕ} 0 1 = cc in omega arith
 
 module _ (b : List ℕ) where
-  refused-then : (o : Option Fault) → refusal (asks b) ≡ o → (f : Fault) → answerOf (readingAs o (drawnBy b (records b))) ≡ Err f → Refused b f
+  refused-then : (o : Option Fault) → refusal (asks b) ≡ o → (f : Fault) → answerOf (answerOr o (drawnBy b (records b))) ≡ Err f → Refused b f
   refused-then None h f e = absurd (ok-err e)
   refused-then (Some g) h f e = let s : g ≡ f = cc in first-no (asks b) f (h ∙ ap Some s)
 
   refused-back : (f : Fault) → Refused b f → answerOf (reading b) ≡ Err f
-  refused-back f r = ap (λ o. answerOf (readingAs o (drawnBy b (records b)))) (refused-by (asks b) f r)
+  refused-back f r = ap (λ o. answerOf (answerOr o (drawnBy b (records b)))) (refused-by (asks b) f r)
 
   pub refused-exactly : (r : Result ℕ Fault) → r ≡ answerOf (reading b) → RefusedExactly b r
   refused-exactly r e f = record { then = λ x. refused-then (refusal (asks b)) refl f (sym e ∙ x); back = λ x. e ∙ refused-back f x }
 
-  accepted-then : (o : Option Fault) → refusal (asks b) ≡ o → isOk (answerOf (readingAs o (drawnBy b (records b)))) ≡ true → Accepted b
+  accepted-then : (o : Option Fault) → refusal (asks b) ≡ o → isOk (answerOf (answerOr o (drawnBy b (records b)))) ≡ true → Accepted b
   accepted-then None h e = all-yes (asks b) h
   accepted-then (Some g) h e = let z : _≡_ {A = ℕ} 0 1 = cc in absurd (omega arith)
 
   pub accepted-reading : Accepted b → reading b ≡ Ok (drawnBy b (records b))
-  accepted-reading a = ap (λ o. readingAs o (drawnBy b (records b))) (no-refusal (asks b) a)
+  accepted-reading a = ap (λ o. answerOr o (drawnBy b (records b))) (no-refusal (asks b) a)
 
   pub accepted-exactly : (r : Result ℕ Fault) → r ≡ answerOf (reading b) → AcceptedExactly b r
   accepted-exactly r e =
@@ -147,11 +147,11 @@ module _ (b : List ℕ) where
   -- a refusal, and what is left then
   pub read-refused : (f : Fault) (held : Drawing) → refusal (asks b) ≡ Some f → held ≡ nothingDrawn → (Err f ≡ answerOf (reading b)) × (held ≡ leftBy (reading b))
   read-refused f held h e =
-      let r : reading b ≡ Err f = ap (λ o. readingAs o (drawnBy b (records b))) h in
+      let r : reading b ≡ Err f = ap (λ o. answerOr o (drawnBy b (records b))) h in
       (sym (ap answerOf r), e ∙ sym (ap leftBy r))
 
   -- what an accepted file gives
   pub read-accepted : (n : ℕ) (held : Drawing) → refusal (asks b) ≡ None → held ≡ drawnBy b (records b) → length (held .nodes) ≡ n → (Ok n ≡ answerOf (reading b)) × (held ≡ leftBy (reading b))
   read-accepted n held h e l =
-      let r : reading b ≡ Ok (drawnBy b (records b)) = ap (λ o. readingAs o (drawnBy b (records b))) h in
+      let r : reading b ≡ Ok (drawnBy b (records b)) = ap (λ o. answerOr o (drawnBy b (records b))) h in
       (ap Ok (sym l ∙ ap (λ d. length (d .nodes)) e) ∙ sym (ap answerOf r), e ∙ sym (ap leftBy r))

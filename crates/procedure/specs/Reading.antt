@@ -9,7 +9,7 @@ use Rattle.std.specs.declared.option.Option.{Option}
 use Rattle.std.specs.declared.option.Option.the-variants.{Some, None}
 use Rattle.std.specs.declared.result.Result.{Result}
 use Rattle.std.specs.declared.result.Result.the-variants.{Ok, Err}
-use Rattle.fault.specs.Asking.{Asked, refusal, askedUpTo, AllYes, FirstNo}
+use Rattle.fault.specs.Asking.{Asked, refusal, askedUpTo, AllYes, FirstNo, answerOr}
 use Rattle.fault.specs.declared.fault.Fault.{Fault}
 use Rattle.fault.specs.declared.fault.Question.the-variants.{FileWithinLimit, FieldsInRange, ChildrenFree, ArrowPlaced, OneRoot, BindersFew, VariablesInScope}
 use Rattle.notation.specs.Parts.{childrenOf, blankArrow}
@@ -120,14 +120,9 @@ fileAsks b = record { question = FileWithinLimit; place = 0; yes = leb (length b
 unfoldable pub asks : List ℕ → List Asked
 asks b = fileAsks b ++ wholeAsks (drawnBy b (records b))
 
--- a reading by its first no, if there is one
-abbrev pub readingAs : Option Fault → Drawing → Result Drawing Fault
-readingAs None d = Ok d
-readingAs (Some f) d = Err f
-
 -- what a reading gives: the fault of the first question that is answered no, or what the records draw
 abbrev pub reading : List ℕ → Result Drawing Fault
-reading b = readingAs (refusal (asks b)) (drawnBy b (records b))
+reading b = answerOr (refusal (asks b)) (drawnBy b (records b))
 
 -- a reading answers the number of nodes
 abbrev pub answerOf : Result Drawing Fault → Result ℕ Fault

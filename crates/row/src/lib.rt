@@ -1,0 +1,3 @@
+//! A state of a diagram as a row of cells, and the order of rows.
+pub mod order;
+pub mod row;
