@@ -47,3 +47,13 @@ askedOfFields q i (fits ∷ more) = record { question = q; place = i; yes = fits
 abbrev pub answerOr : {X : Type 0} → Option Fault → X → Result X Fault
 answerOr None x = Ok x
 answerOr (Some f) x = Err f
+
+-- P holds if the call was refused
+abbrev pub IfRefused : {X : Type 0} → Result X Fault → Type 0 → Type 0
+IfRefused (Ok x) P = Unit {0}
+IfRefused (Err f) P = P
+
+-- P holds unless the call was refused
+abbrev pub UnlessRefused : {X : Type 0} → Result X Fault → Type 0 → Type 0
+UnlessRefused (Ok x) P = P
+UnlessRefused (Err f) P = Unit {0}
