@@ -7,6 +7,7 @@ ghost use Rattle.roster.specs.Runs.{inRange};
 use crate::range::Range;
 
 /// A roster by first value and count: each of the types 0 to 7 has a run of values, or is unknown until one is set.
+#[derive(Drop)]
 pub struct Ranges {
     pub(crate) entries: [Option<Range>; 8],
     ghost full: { length entries ≡ 8 },
