@@ -1,10 +1,8 @@
--- What a search from the front finds, against the list that the definition gives; and one turn of the loop that moves elements up.
-use mathlib.Core.Path.{_≡_, refl, sym, ap, _∙_}
-use mathlib.Core.List.{List, [], _∷_, _++_}
-use Prim.Native.Nat.{ℕ, zero, suc, _+_, _<_, _≤_}
+-- What a search from the front finds, against the list that the definition gives.
+use mathlib.Core.Path.{_≡_, refl, ap, _∙_}
+use mathlib.Core.List.{List, [], _∷_}
+use Prim.Native.Nat.{ℕ, zero, suc}
 use native.Mathlib.Omega.{arith}
-use lib.ListN.{length, getD, set, take, drop}
-use Rattle.std.proofs.shelf.Lists.{drop-more, append-assoc, take-more-set, drop-set-lt}
 use Rattle.std.specs.declared.cmp.Ordering.{Ordering}
 use Rattle.std.specs.declared.cmp.Ordering.the-variants.{Less, Equal, Greater}
 use Rattle.std.specs.shelf.Lists.{inserted}
@@ -29,11 +27,3 @@ module _ {X : Type 0} (c : X → X → Ordering) (x : X) where
   met (y ∷ ys) (suc i) h =
       let rest : MetAt c ys x i = record { there = omega (arith, h .there); past = λ k d l. h .past (suc k) d (omega arith); meets = λ d. h .meets d } in
       by y ys Greater (h .past 0 y (omega arith)) ∙ ap (λ (z : List X). y ∷ z) (met ys i rest)
-
--- the element in hand for the one at i
-pub passed : {X : Type 0} (xs xs′ : List X) (i : ℕ) (h y : X) → i < length xs → y ≡ getD xs i y → xs′ ≡ set xs i h → inserted xs′ (i + 1) y ≡ inserted xs i h
-passed {X} xs xs′ i h y l e s =
-    let a : take (i + 1) (set xs i h) ≡ take i xs ++ h ∷ [] = take-more-set xs i h l in
-    let b : drop (i + 1) (set xs i h) ≡ drop (i + 1) xs = drop-set-lt (i + 1) xs i h (omega arith) in
-    let d : drop i xs ≡ y ∷ drop (i + 1) xs = drop-more xs i y l ∙ ap (λ (z : X). z ∷ drop (i + 1) xs) (sym e) in
-    rw (s, a, b, d, append-assoc) refl

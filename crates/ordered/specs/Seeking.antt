@@ -1,7 +1,9 @@
--- Where an element stands, or comes in, in a list that is searched from its front.
+-- Where an element stands, or comes in, in a list that is searched from its front, and what moving elements up leaves.
 use mathlib.Core.Path.{_≡_}
 use mathlib.Core.List.{List}
-use Prim.Native.Nat.{ℕ, _<_, _≤_}
+use Prim.Native.Nat.{ℕ, _-_, _<_, _≤_}
+use mathlib.Core.Bool.{cond}
+use lib.Dec.{ltb, eqb}
 use lib.ListN.{length, getD}
 use Rattle.std.specs.declared.cmp.Ordering.{Ordering}
 use Rattle.std.specs.declared.cmp.Ordering.the-variants.{Less, Equal, Greater}
@@ -21,3 +23,7 @@ pub record ComesAt {X : Type 0} (c : X → X → Ordering) (xs : List X) (x : X)
   pub there : i ≤ length xs
   pub past : AboveFirst c xs x i
   pub next : (d : X) → i < length xs → c x (getD xs i d) ≡ Less
+
+-- what stands at k where x has come in at `at` and the elements from there on have moved up
+abbrev pub shiftedAt : {X : Type 0} → List X → ℕ → X → ℕ → X → X
+shiftedAt xs at x k d = cond (ltb k at) (getD xs k d) (cond (eqb k at) x (getD xs (k - 1) d))

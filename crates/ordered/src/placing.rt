@@ -1,11 +1,10 @@
 ghost use mathlib.Core.Path.{_≡_};
-ghost use Prim.Native.Nat.{_<_, _≤_};
-ghost use lib.ListN.{length, getD, set, take, drop};
+ghost use Prim.Native.Nat.{ℕ, _<_, _≤_};
+ghost use lib.ListN.{length, getD, take, drop};
 ghost use Rattle.std.specs.Results.{Cases};
-ghost use Rattle.std.specs.shelf.Lists.{inserted};
 ghost use Rattle.std.specs.shelf.Maps.{nth};
 ghost use Rattle.ordered.specs.Order.{kept, spills, StaysRising, HoldsNothingElse, HoldsExactly, LeavesOutAbove};
-ghost use Rattle.ordered.specs.Seeking.{MetAt, ComesAt};
+ghost use Rattle.ordered.specs.Seeking.{MetAt, ComesAt, shiftedAt};
 use crate::rank::Rank;
 use std::cmp::Ordering;
 
@@ -23,27 +22,18 @@ fn seek<T: Rank>(xs: &[T], x: &T) -> Result<usize, usize>
     Err(xs.len())
 }
 
-/// Puts x at i, and gives what stood there.
-fn exchange<T: Copy>(places: &mut [T], i: usize, x: T) -> T
-    requires { ⌜ i < length (now places) ⌝ }
-    ensures gives { λ r. ⌜ r ≡ getD (now (places .entry)) i r ⌝ }
-    ensures puts { λ _. ⌜ now (places .exit) ≡ set (now (places .entry)) i x ⌝ }
-{
-    let y = places[i];
-    places[i] = x;
-    y
-}
-
-/// Moves the elements from `at` up to `end` one place up, with x at `at`, and gives the one that leaves.
-fn shift<T: Copy>(places: &mut [T], at: usize, end: usize, x: T) -> T
+/// Moves the elements from `at` up to `end` one place up, with x at `at`. The one before `end` is overwritten.
+fn shift<T: Copy>(places: &mut [T], at: usize, end: usize, x: T)
     requires { ⌜ at ≤ end ⌝ ∗ ⌜ end ≤ length (now places) ⌝ }
-    ensures { λ r. ⌜ inserted (now (places .exit)) end r ≡ inserted (now (places .entry)) at x ⌝ }
+    ensures moves { λ _. ⌜ ((k : ℕ) (d : T) → k < end → getD (now (places .exit)) k d ≡ shiftedAt (now (places .entry)) at x k d) ⌝ }
+    ensures leaves { λ _. ⌜ ((k : ℕ) (d : T) → end ≤ k → getD (now (places .exit)) k d ≡ getD (now (places .entry)) k d) ⌝ }
 {
     let mut hole = x;
     for i in at..end {
-        hole = exchange(places, i, hole);
+        let y = places[i];
+        places[i] = hole;
+        hole = y;
     }
-    hole
 }
 
 /// Puts x at its place among the first `len`, unless it is there, and gives the new count and whether one was left out.

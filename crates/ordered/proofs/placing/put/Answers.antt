@@ -44,9 +44,9 @@ returns-after-len-room g c =
     record {
       fits = omega (arith, ends .1);
       held = elim (c .if-len-room .came) [
-        | then-len-room w ↦ held-room s t D n at e (c .args .x) (c .shift .result) low fits len (c .shift .ensures) is (w .if-len-room .taken) (w .end-is)
-        | else-len-room w ↦ held-full s t D n at e (c .args .x) (c .shift .result) low fits len (c .shift .ensures) is (omega (arith, w .if-len-room .left)) (w .end-is)
+        | then-len-room w ↦ held-room s t D n at e (c .args .x) low fits len (c .shift .ensures .moves) (c .shift .ensures .leaves) is (w .if-len-room .taken) (w .end-is)
+        | else-len-room w ↦ held-full s t D n at e (c .args .x) low fits len (c .shift .ensures .moves) (c .shift .ensures .leaves) is (omega (arith, w .if-len-room .left)) (w .end-is)
       ];
-      later = later-some s t D n at e (c .args .x) (c .shift .result) low fits len (c .shift .ensures) is (ends .0) (ends .1);
-      over = over-some s t D n at e (c .args .x) (c .shift .result) low fits len (c .shift .ensures) is;
+      later = later-some s t D n at e (c .args .x) low fits len (c .shift .ensures .moves) (c .shift .ensures .leaves) is;
+      over = over-some s t D n at e (c .args .x) low fits len (c .shift .ensures .moves) (c .shift .ensures .leaves) is;
     }
