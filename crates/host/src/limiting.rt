@@ -1,6 +1,7 @@
 ghost use mathlib.Core.Path.{_≡_};
+ghost use mathlib.Core.Bool.{false};
 ghost use mathlib.Core.List.{[], _∷_};
-ghost use Prim.Native.Nat.{ℕ};
+ghost use Prim.Native.Nat.{ℕ, _<_};
 ghost use lib.ListN.{getD, set, replicate};
 ghost use Rattle.std.specs.declared.option.Option.{Option};
 ghost use Rattle.std.specs.declared.option.Option.the-variants.{None};
@@ -74,7 +75,8 @@ impl Limits {
     }
 
     fn entry(&self, guard: u16) -> Option<Limit>
-        ensures { λ r. ⌜ r ≡ getD (now (self .entry) .entries) guard None ⌝ }
+        ensures finds { λ r. ⌜ r ≡ getD (now (self .entry) .entries) guard None ⌝ }
+        ensures ends { λ r. ⌜ (31 < guard → r ≡ None) ⌝ }
     {
         if guard > 31 {
             return None;
@@ -111,7 +113,10 @@ impl Limits {
 pub impl GuardHost for Limits as LimitsHost {
     ghost meaning = { λ limits w guard e outer inner. limitsAnswer (limits .entries) guard e outer inner };
 
-    fn holds(&self, guard: u16, event: Event, outer: Option<u16>, inner: Option<u16>) -> bool {
+    fn holds(&self, guard: u16, event: Event, outer: Option<u16>, inner: Option<u16>) -> bool
+        ensures answers_for_what_was_told { λ r. ⌜ r ≡ limitsAnswer (now (self .entry) .entries) guard event outer inner ⌝ }
+        ensures says_no_above_guard_31 { λ r. ⌜ (31 < guard → r ≡ false) ⌝ }
+    {
         let Some(limit) = self.entry(guard) else {
             return false;
         };

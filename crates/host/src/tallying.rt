@@ -1,4 +1,5 @@
 ghost use mathlib.Core.Path.{_≡_};
+ghost use mathlib.Core.Bool.{false};
 ghost use mathlib.Core.List.{List, [], _∷_, map};
 ghost use Prim.Native.Nat.{ℕ, _+_, _<_, _≤_, min};
 ghost use lib.Dec.{ltb};
@@ -50,7 +51,8 @@ impl Tallies {
     }
 
     fn entry(&self, guard: u16) -> Option<Tally>
-        ensures { λ r. ⌜ r ≡ getD (now (self .entry) .entries) guard None ⌝ }
+        ensures finds { λ r. ⌜ r ≡ getD (now (self .entry) .entries) guard None ⌝ }
+        ensures ends { λ r. ⌜ (31 < guard → r ≡ None) ⌝ }
     {
         if guard > 31 {
             return None;
@@ -93,7 +95,10 @@ impl Tallies {
 pub impl GuardHost for Tallies as TalliesHost {
     ghost meaning = { λ tallies w guard e outer inner. talliesAnswer (tallies .entries) w guard };
 
-    fn holds(&self, guard: u16, event: Event, outer: Option<u16>, inner: Option<u16>) -> bool {
+    fn holds(&self, guard: u16, event: Event, outer: Option<u16>, inner: Option<u16>) -> bool
+        ensures answers_for_what_was_told { λ r. ⌜ r ≡ talliesAnswer (now (self .entry) .entries) [] guard ⌝ }
+        ensures says_no_above_guard_31 { λ r. ⌜ (31 < guard → r ≡ false) ⌝ }
+    {
         match self.entry(guard) {
             None => false,
             Some(tally) => tally.told < tally.bound,

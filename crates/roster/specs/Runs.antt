@@ -1,6 +1,6 @@
 -- Types by first value and count, and the setting of one.
-use Prim.Native.Nat.{ℕ, _+_}
-use mathlib.Core.Bool.{Bool, true, _&&_}
+use Prim.Native.Nat.{ℕ, _+_, _-_}
+use mathlib.Core.Bool.{Bool, true, cond, _&&_}
 use mathlib.Core.List.{List, [], _∷_}
 use lib.Dec.{leb}
 use lib.ListN.{getD, set}
@@ -28,7 +28,11 @@ abbrev pub rangeValues : Option Range → Option (List ℕ)
 rangeValues None = None
 rangeValues (Some s) = Some (counting (s .first) (s .count))
 
--- the values of a type by its entry in the table; a type past the table is unknown
+-- the value of a range at a position from 1, absent past its last
+abbrev pub rangeValue : ℕ → ℕ → ℕ → Option ℕ
+rangeValue first count position = cond (leb 1 position && leb position count) (Some (first + (position - 1))) None
+
+-- the values of a type by its entry in the table, which ends at type 7; a type past it is unknown
 abbrev pub rangesValues : List (Option Range) → ℕ → Option (List ℕ)
 rangesValues entries ty = rangeValues (getD entries ty None)
 

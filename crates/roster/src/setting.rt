@@ -1,12 +1,12 @@
 ghost use mathlib.Core.Path.{_≡_};
 ghost use mathlib.Core.Bool.{true};
-ghost use Prim.Native.Nat.{ℕ};
+ghost use Prim.Native.Nat.{ℕ, _<_};
 ghost use lib.ListN.{getD};
 ghost use Rattle.std.specs.Iters.{counting};
 ghost use Rattle.std.specs.declared.option.Option.the-variants.{Some, None};
 ghost use Rattle.fault.specs.Asking.{refusal, answerOr, IfRefused, UnlessRefused};
-ghost use Rattle.roster.specs.Runs.{inRange, rangeValues, rangesValues, rangeAsks, entriesAfter};
-ghost use Rattle.roster.specs.Values.{countOf, valueAt};
+ghost use Rattle.roster.specs.Runs.{inRange, rangeValue, rangeValues, rangesValues, rangeAsks, entriesAfter};
+ghost use Rattle.roster.specs.Values.{countOf};
 use crate::ranges::Ranges;
 use crate::roster::Roster;
 use crate::range::Range;
@@ -24,15 +24,13 @@ impl Range {
     /// The value at a position from 1, absent elsewhere.
     fn value(self, position: usize) -> Option<u16>
         requires { ⌜ inRange (Some self) ≡ true ⌝ }
-        ensures { λ r. ⌜ r ≡ valueAt (rangeValues (Some self)) position ⌝ }
+        ensures { λ r. ⌜ r ≡ rangeValue (self .first) (self .count) position ⌝ }
     {
-        if position < 1 {
-            return None;
+        if position >= 1 && position <= self.count as usize {
+            Some(self.first + (position - 1) as u16)
+        } else {
+            None
         }
-        if position > self.count as usize {
-            return None;
-        }
-        Some(self.first + (position - 1) as u16)
     }
 }
 
@@ -45,7 +43,9 @@ impl Ranges {
     }
 
     fn range(&self, ty: u16) -> Option<Range>
-        ensures { λ r. ⌜ r ≡ getD (now (self .entry) .entries) ty None ⌝ ∗ ⌜ inRange r ≡ true ⌝ }
+        ensures finds { λ r. ⌜ r ≡ getD (now (self .entry) .entries) ty None ⌝ }
+        ensures fits { λ r. ⌜ inRange r ≡ true ⌝ }
+        ensures ends { λ r. ⌜ (7 < ty → r ≡ None) ⌝ }
     {
         if ty > 7 {
             return None;
@@ -78,7 +78,10 @@ impl Ranges {
 pub impl Roster for Ranges as RangesRoster {
     ghost values = { λ ranges ty. rangesValues (ranges .entries) ty };
 
-    fn count(&self, ty: u16) -> Option<usize> {
+    fn count(&self, ty: u16) -> Option<usize>
+        ensures counts_the_values { λ r. ⌜ r ≡ countOf (rangesValues (now (self .entry) .entries) ty) ⌝ }
+        ensures knows_no_type_above_7 { λ r. ⌜ (7 < ty → r ≡ None) ⌝ }
+    {
         match self.range(ty) {
             None => None,
             Some(range) => Some(range.len()),

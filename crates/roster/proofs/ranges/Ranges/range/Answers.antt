@@ -5,4 +5,9 @@ use Rattle.std.proofs.shelf.Lists.{getD-past}
 use Rattle.roster.proofs.ranges.Ranges.range.Needs as need
 
 pub returns-then-ty-gt7 : need.returns-then-ty-gt7
-returns-then-ty-gt7 c = (sym (getD-past (c .args .self .now .entries) (c .args .ty) None (omega (arith, c .args .self .now .full))), refl)
+returns-then-ty-gt7 c =
+    record {
+      finds = sym (getD-past (c .args .self .now .entries) (c .args .ty) None (omega (arith, c .args .self .now .full)));
+      fits = refl;
+      ends = λ above. refl;
+    }
