@@ -24,10 +24,10 @@ pub record InForm (e : Event) : Type 0 where
 abbrev pub formAsks : Event → List Asked
 formAsks e =
     askedOfFields EventInForm 0 (
-      leb (e .label) 255
-      ∷ leb (e .count) 2
-      ∷ (leb 1 (e .count) || eqb (e .first) 0)
-      ∷ (leb 2 (e .count) || eqb (e .second) 0) ∷ []
+    leb (e .label) 255
+    ∷ leb (e .count) 2
+    ∷ (leb 1 (e .count) || eqb (e .first) 0)
+    ∷ (leb 2 (e .count) || eqb (e .second) 0) ∷ []
     )
 
 -- an argument is there where the event has that many

@@ -8,9 +8,7 @@ use std::cmp::Ordering;
 fn by_fields(a: &Event, b: &Event) -> Ordering
     ensures { λ r. ⌜ r ≡ eventRank (now (a .entry)) (now (b .entry)) ⌝ }
 {
-    let arguments = a.first
-        .cmp(&b.first)
-        .then(a.second.cmp(&b.second));
+    let arguments = a.first.cmp(&b.first).then(a.second.cmp(&b.second));
     let counted = a.count.cmp(&b.count).then(arguments);
     a.label.cmp(&b.label).then(counted)
 }

@@ -71,7 +71,9 @@ impl Limits {
     pub fn new() -> Limits
         ensures has_none_set { λ r. ⌜ r .entries ≡ replicate 32 None ⌝ }
     {
-        Limits { entries: [None; 32] }
+        Limits {
+            entries: [None; 32],
+        }
     }
 
     fn entry(&self, guard: u16) -> Option<Limit>
@@ -86,7 +88,13 @@ impl Limits {
 
     /// Sets the limit of a guard, in place of the one it had. An operand is given by its number (1 outer variable, 2 inner variable,
     /// 3 first argument, 4 second argument), and so is a comparison (0 below, 1 equal, 2 above).
-    pub fn set(&mut self, guard: u16, operand: u16, comparison: u16, constant: u16) -> Result<(), Fault>
+    pub fn set(
+        &mut self,
+        guard: u16,
+        operand: u16,
+        comparison: u16,
+        constant: u16,
+    ) -> Result<(), Fault>
         ensures refuses_at_the_first_wrong_field { λ r. ⌜ r ≡ answerOr (refusal (limitAsks guard operand comparison constant)) tt ⌝ }
         ensures changes_nothing_if_refused { λ r. ⌜ IfRefused r (now (self .exit) ≡ now (self .entry)) ⌝ }
         ensures replaces_one_entry_unless_refused { λ r. ⌜ UnlessRefused r (now (self .exit) .entries ≡ set (now (self .entry) .entries) guard (limitNumbered operand comparison constant)) ⌝ }
@@ -130,5 +138,6 @@ pub impl GuardHost for Limits as LimitsHost {
         ensures answers_as_after_the_event { λ _. ⌜ Told (λ w guard e outer inner. limitsAnswer (now (self .entry) .entries) guard e outer inner) (event ∷ []) (λ w guard e outer inner. limitsAnswer (now (self .exit) .entries) guard e outer inner) ⌝ }
         ensures changes_nothing { λ _. ⌜ now (self .exit) ≡ now (self .entry) ⌝ }
     {
+        let _ = event;
     }
 }

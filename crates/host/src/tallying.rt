@@ -47,7 +47,9 @@ impl Tallies {
     pub fn new() -> Tallies
         ensures has_none_set { λ r. ⌜ r .entries ≡ replicate 32 None ⌝ }
     {
-        Tallies { entries: [None; 32] }
+        Tallies {
+            entries: [None; 32],
+        }
     }
 
     fn entry(&self, guard: u16) -> Option<Tally>

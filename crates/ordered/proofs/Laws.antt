@@ -9,7 +9,7 @@ use native.Mathlib.Omega.{arith}
 use borrow.Author.Tests.{ltb-false}
 use lib.Dec.{ltb}
 use lib.ListN.{length, take}
-use Rattle.std.proofs.shelf.Lists.{take-all}
+use Rattle.std.proofs.shelf.Lists.{take-all, length-take}
 use Rattle.std.specs.Orderings.{reversed}
 use Rattle.std.specs.declared.cmp.Ordering.{Ordering}
 use Rattle.std.specs.declared.cmp.Ordering.the-variants.{Less, Equal, Greater}
@@ -67,6 +67,19 @@ module _ {X : Type 0} (c : X → X → Ordering) where
         | Greater ↦ (λ i. ⊎-elim (λ e. inl (List·Memᴰ·head e)) (λ m. ⊎-elim (λ k. inl (List·Memᴰ·tail k)) (λ e. inr e) (in-insert ws x y m)) (List·Memᴰ·cases-cons i))
       ]
 
+  longer : (xs : List X) (x : X) → length xs ≤ length (insertOrdered c xs x)
+  longer [] x = omega arith
+  longer (w ∷ ws) x =
+      let h : length ws ≤ length (insertOrdered c ws x) = longer ws x in
+      elim (c x w) as (λ r. suc (length ws) ≤ length (byRank r (x ∷ w ∷ ws) (w ∷ ws) (w ∷ insertOrdered c ws x))) [
+        | Less ↦ omega arith
+        | Equal ↦ omega arith
+        | Greater ↦ omega arith
+      ]
+
+  pub grows : (n : ℕ) (xs : List X) (x : X) → length xs ≤ n → length xs ≤ length (kept c n xs x)
+  grows n xs x fits = let h = longer xs x in omega (arith, length-take n (insertOrdered c xs x))
+
   module _ (o : Order c) where
     below-trans : (x y : X) (ys : List X) → c x y ≡ Less → Below c y ys → Below c x ys
     below-trans x y [] h b = tt
@@ -91,10 +104,10 @@ module _ {X : Type 0} (c : X → X → Ordering) where
           | Less ↦ (λ e. ⊎-elim (λ m. List·Memᴰ·tail m) (λ p. List·Memᴰ·head p) i)
           | Equal ↦ (λ e. ⊎-elim (λ m. m) (λ p. List·Memᴰ·head (p ∙ o .same x w e)) i)
           | Greater ↦ (λ e.
-          ⊎-elim
-          (λ m. ⊎-elim (λ p. List·Memᴰ·head p) (λ q. List·Memᴰ·tail (in-back ws x y (inl q))) (List·Memᴰ·cases-cons m))
-          (λ p. List·Memᴰ·tail (in-back ws x y (inr p)))
-          i)
+              ⊎-elim
+              (λ m. ⊎-elim (λ p. List·Memᴰ·head p) (λ q. List·Memᴰ·tail (in-back ws x y (inl q))) (List·Memᴰ·cases-cons m))
+              (λ p. List·Memᴰ·tail (in-back ws x y (inr p)))
+              i)
         ] in
         go (c x w) refl
 

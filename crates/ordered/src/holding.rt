@@ -1,5 +1,6 @@
 ghost use mathlib.Core.Path.{_≡_};
 ghost use mathlib.Core.List.{[]};
+ghost use Prim.Native.Nat.{ℕ, _≤_};
 ghost use denote.Ref.{now, name};
 ghost use lib.ListN.{length, take};
 ghost use Rattle.std.specs.shelf.Maps.{nth};
@@ -33,6 +34,7 @@ impl<'a, T: Rank + Copy> Ordered<'a, T> {
     /// How many elements it holds.
     pub fn len(&self) -> usize
         ensures counts_what_is_held { λ r. ⌜ r ≡ length (held (now (self .entry))) ⌝ }
+        ensures so_many_first_places_are_what_is_held { λ r. ⌜ take r (now (now (self .entry) .places)) ≡ held (now (self .entry)) ⌝ }
     {
         count(self.places, self.used)
     }
@@ -48,7 +50,8 @@ impl<'a, T: Rank + Copy> Ordered<'a, T> {
     pub fn insert(&mut self, x: T) -> bool
         ensures holds_the_first_in_order { λ _. ⌜ held (now (self .exit)) ≡ kept rank (room (now (self .entry))) (held (now (self .entry))) x ⌝ }
         ensures says_whether_one_is_left_out { λ r. ⌜ r ≡ spills rank (room (now (self .entry))) (held (now (self .entry))) x ⌝ }
-        ensures leaves_later_places { λ _. ⌜ placesFrom (length (held (now (self .exit)))) (now (self .exit)) ≡ placesFrom (length (held (now (self .exit)))) (now (self .entry)) ⌝ }
+        ensures leaves_later_places { λ _. ⌜ ((n : ℕ) → length (held (now (self .exit))) ≤ n → placesFrom n (now (self .exit)) ≡ placesFrom n (now (self .entry))) ⌝ }
+        ensures holds_no_fewer { λ _. ⌜ length (held (now (self .entry))) ≤ length (held (now (self .exit))) ⌝ }
         ensures keeps_its_room { λ _. ⌜ room (now (self .exit)) ≡ room (now (self .entry)) ⌝ }
         ensures keeps_its_lender { λ _. ⌜ name (now (self .exit) .places) ≡ name (now (self .entry) .places) ⌝ }
         ensures stays_rising { λ _. ⌜ StaysRising rank (held (now (self .entry))) (held (now (self .exit))) ⌝ }

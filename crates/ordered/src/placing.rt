@@ -57,7 +57,8 @@ fn put<T: Rank + Copy>(places: &mut [T], len: usize, x: T) -> (usize, bool)
 
 /// How many of the first `used` places there are.
 pub(crate) fn count<T>(places: &[T], used: usize) -> usize
-    ensures { λ r. ⌜ r ≡ length (take used (now (places .entry))) ⌝ }
+    ensures counts { λ r. ⌜ r ≡ length (take used (now (places .entry))) ⌝ }
+    ensures same { λ r. ⌜ take r (now (places .entry)) ≡ take used (now (places .entry)) ⌝ }
 {
     used.min(places.len())
 }
@@ -77,7 +78,8 @@ pub(crate) fn pick<T: Copy>(places: &[T], used: usize, i: usize) -> Option<T>
 pub(crate) fn place<T: Rank + Copy>(places: &mut [T], used: usize, x: T) -> (usize, bool)
     ensures held { λ r. ⌜ take (r .0) (now (places .exit)) ≡ kept rank (length (now (places .entry))) (take used (now (places .entry))) x ⌝ }
     ensures over { λ r. ⌜ r .1 ≡ spills rank (length (now (places .entry))) (take used (now (places .entry))) x ⌝ }
-    ensures later { λ r. ⌜ drop (length (take (r .0) (now (places .exit)))) (now (places .exit)) ≡ drop (length (take (r .0) (now (places .exit)))) (now (places .entry)) ⌝ }
+    ensures later { λ r. ⌜ ((n : ℕ) → length (take (r .0) (now (places .exit))) ≤ n → drop n (now (places .exit)) ≡ drop n (now (places .entry))) ⌝ }
+    ensures grows { λ r. ⌜ length (take used (now (places .entry))) ≤ length (take (r .0) (now (places .exit))) ⌝ }
     ensures rises { λ r. ⌜ StaysRising rank (take used (now (places .entry))) (take (r .0) (now (places .exit))) ⌝ }
     ensures only { λ r. ⌜ HoldsNothingElse (take used (now (places .entry))) x (take (r .0) (now (places .exit))) ⌝ }
     ensures exactly { λ r. ⌜ HoldsExactly (take used (now (places .entry))) x (take (r .0) (now (places .exit))) (r .1) ⌝ }

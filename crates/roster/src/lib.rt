@@ -1,5 +1,5 @@
 //! Rosters: which values each type has, as a yard lists its axles.
+pub mod range;
 pub mod ranges;
 pub mod roster;
 pub mod setting;
-pub mod range;

@@ -1,19 +1,38 @@
 ghost use mathlib.Core.Path.{_≡_};
 ghost use mathlib.Core.Bool.{true};
-ghost use Prim.Native.Nat.{ℕ, _<_};
+ghost use Prim.Native.Nat.{ℕ, _<_, _≤_};
 ghost use lib.ListN.{getD};
 ghost use Rattle.std.specs.Iters.{counting};
+ghost use Rattle.std.specs.Results.{Cases};
 ghost use Rattle.std.specs.declared.option.Option.the-variants.{Some, None};
 ghost use Rattle.fault.specs.Asking.{refusal, answerOr, IfRefused, UnlessRefused};
 ghost use Rattle.roster.specs.Runs.{inRange, rangeValue, rangeValues, rangesValues, rangeAsks, entriesAfter};
 ghost use Rattle.roster.specs.Values.{countOf};
+use crate::range::Range;
 use crate::ranges::Ranges;
 use crate::roster::Roster;
-use crate::range::Range;
 use fault::fault::Fault;
 use fault::fault::Question;
 
 impl Range {
+    /// The range that a setting of a type names, if its fields are in range.
+    fn checked(ty: u16, first: u16, count: u16) -> Result<Range, Fault>
+        ensures { λ r. ⌜ Cases r
+            (λ range. (range ≡ record { first = first; count = count }) × (inRange (Some range) ≡ true) × (ty ≤ 7) × (refusal (rangeAsks ty first count) ≡ None))
+            (λ f. refusal (rangeAsks ty first count) ≡ Some f) ⌝ }
+    {
+        if ty > 7 {
+            return Err(Question::SettingInRange.at(0));
+        }
+        if count > 16 {
+            return Err(Question::SettingInRange.at(2));
+        }
+        if first as u32 + count as u32 > 65536 {
+            return Err(Question::SettingInRange.at(2));
+        }
+        Ok(Range { first, count })
+    }
+
     /// How many values it has.
     fn len(self) -> usize
         ensures { λ r. ⌜ Some r ≡ countOf (rangeValues (Some self)) ⌝ }
@@ -61,16 +80,8 @@ impl Ranges {
         ensures leaves_other_types { λ _. ⌜ ((other : ℕ) → (other ≡ ty → ⊥) → rangesValues (now (self .exit) .entries) other ≡ rangesValues (now (self .entry) .entries) other) ⌝ }
         ensures replaces_one_entry { λ r. ⌜ now (self .exit) .entries ≡ entriesAfter r (now (self .entry) .entries) ty (record { first = first; count = count }) ⌝ }
     {
-        if ty > 7 {
-            return Err(Question::SettingInRange.at(0));
-        }
-        if count > 16 {
-            return Err(Question::SettingInRange.at(2));
-        }
-        if first as u32 + count as u32 > 65536 {
-            return Err(Question::SettingInRange.at(2));
-        }
-        self.entries[ty as usize] = Some(Range { first, count });
+        let range = Range::checked(ty, first, count)?;
+        self.entries[ty as usize] = Some(range);
         Ok(())
     }
 }

@@ -17,7 +17,7 @@ returns-then-i-count g c =
     let n = length-take (c .args .used) (c .args .places .now) in
     let l : c .args .i < length (take (c .args .used) (c .args .places .now)) = omega arith in
     let u : c .args .i < c .args .used = omega arith in
-    sym (nth-read (take (c .args .used) (c .args .places .now)) (c .count .result) (c .args .i) (c .index-places-i .result) (c .count .ensures) (omega arith)
+    sym (nth-read (take (c .args .used) (c .args .places .now)) (c .count .result) (c .args .i) (c .index-places-i .result) (c .count .ensures .counts) (omega arith)
     (c .index-places-i .is ∙ sym (getD-take (c .args .used) (c .args .places .now) (c .args .i) (c .index-places-i .result) u)))
 
 pub returns-else-i-count : need.returns-else-i-count
