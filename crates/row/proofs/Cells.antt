@@ -1,16 +1,17 @@
--- The order of cells is total, one step of the loop that compares them, and rows with the same cells.
+-- The order of cells is total, the first cell that differs decides it, and a row is its cells.
 use mathlib.Core.Path.{_≡_, refl, sym, ap, subst, _∙_}
 use mathlib.Core.Bool.{true≢false}
 use mathlib.Core.List.{List, [], _∷_}
-use Prim.Native.Nat.{ℕ, _+_, _<_, _≤_}
-use lib.ListN.{length, getD, drop}
-use Rattle.std.proofs.shelf.Lists.{drop-more, drop-all}
+use Prim.Native.Nat.{ℕ, zero, suc, _<_}
+use native.Mathlib.Omega.{arith}
+use lib.ListN.{length, getD}
+use Rattle.std.proofs.shelf.Lists.{same-lists, getD-default}
 use Rattle.std.specs.Keys.{rank, unsigned}
 use Rattle.std.specs.Orderings.{reversed, thenBy, isLt, isGt}
 use Rattle.std.specs.declared.cmp.Ordering.{Ordering}
 use Rattle.std.specs.declared.cmp.Ordering.the-variants.{Less, Equal, Greater}
 use Rattle.ordered.proofs.Then.{numbers, flip-then, same-then, chain-then}
-use Rattle.row.specs.Rows.{cellsRank}
+use Rattle.row.specs.Rows.{cellsRank, rowRank, AlikeBelow}
 use Rattle.row.specs.declared.row.Row.{Row}
 use Rattle.row.specs.contracts.row.Row.{the-propositions}
 
@@ -38,12 +39,35 @@ cells-same (x ∷ xs) (y ∷ ys) e =
     let q : xs ≡ ys = cells-same xs ys (b .1) in
     cc
 
--- one step of the loop
-pub cells-step : (xs ys : List ℕ) (i : ℕ) → i < length xs → i < length ys → cellsRank (drop i xs) (drop i ys) ≡ thenBy (rank (getD xs i 0) (getD ys i 0)) (cellsRank (drop (i + 1) xs) (drop (i + 1) ys))
-cells-step xs ys i h k = rw (drop-more xs i 0 h, drop-more ys i 0 k) refl
+rank-self : (n : ℕ) → rank n n ≡ Equal
+rank-self n = sym (unsigned .says n n Equal refl)
 
-pub cells-end : (xs ys : List ℕ) (i : ℕ) → length xs ≤ i → length ys ≤ i → cellsRank (drop i xs) (drop i ys) ≡ Equal
-cells-end xs ys i h k = rw (drop-all i xs h, drop-all i ys k) refl
+cells-self : (xs : List ℕ) → cellsRank xs xs ≡ Equal
+cells-self [] = refl
+cells-self (x ∷ xs) = ap (λ (o : Ordering). thenBy o (cellsRank xs xs)) (rank-self x) ∙ cells-self xs
+
+-- the first cell that differs decides
+cells-differ : (xs ys : List ℕ) (i : ℕ) → i < length xs → i < length ys → ((k : ℕ) → k < i → getD xs k 0 ≡ getD ys k 0) → (getD xs i 0 ≡ getD ys i 0 → ⊥) → cellsRank xs ys ≡ rank (getD xs i 0) (getD ys i 0)
+cells-differ [] ys i h k same apart = absurd (omega arith)
+cells-differ (x ∷ xs) [] i h k same apart = absurd (omega arith)
+cells-differ (x ∷ xs) (y ∷ ys) zero h k same apart = ahead (rank x y) (cellsRank xs ys) (λ e. apart (numbers .same x y e))
+  where
+    ahead : (r o : Ordering) → (r ≡ Equal → ⊥) → thenBy r o ≡ r
+    ahead Less o apart = refl
+    ahead Equal o apart = absurd (apart refl)
+    ahead Greater o apart = refl
+cells-differ (x ∷ xs) (y ∷ ys) (suc i) h k same apart =
+    let e : x ≡ y = same 0 (omega arith) in
+    let r : rank x y ≡ Equal = ap (λ (n : ℕ). rank n y) e ∙ rank-self y in
+    ap (λ (o : Ordering). thenBy o (cellsRank xs ys)) r ∙ (cells-differ xs ys i (omega arith) (omega arith) (λ j l. same (suc j) (omega arith)) apart)
+
+pub rows-alike : (a b : Row) → AlikeBelow 48 a b → rowRank a b ≡ Equal
+rows-alike a b same =
+    let e : a .cells ≡ b .cells = same-lists (a .cells) (b .cells) (a .full ∙ sym (b .full)) (λ k d l. getD-default (a .cells) k d 0 l ∙ same k (omega (arith, a .full)) ∙ getD-default (b .cells) k 0 d (omega (arith, a .full, b .full))) in
+    rw e (cells-self (b .cells))
+
+pub rows-differ : (a b : Row) (i : ℕ) → i < 48 → AlikeBelow i a b → (getD (a .cells) i 0 ≡ getD (b .cells) i 0 → ⊥) → rowRank a b ≡ rank (getD (a .cells) i 0) (getD (b .cells) i 0)
+rows-differ a b i lt same apart = cells-differ (a .cells) (b .cells) i (omega (arith, a .full)) (omega (arith, b .full)) same apart
 
 -- a row is its cells
 pub same-row : (x y : Row) → x .cells ≡ y .cells → x ≡ y

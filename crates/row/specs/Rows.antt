@@ -1,6 +1,8 @@
 -- The order of rows.
+use mathlib.Core.Path.{_≡_}
 use mathlib.Core.List.{List, [], _∷_}
-use Prim.Native.Nat.{ℕ}
+use Prim.Native.Nat.{ℕ, _<_}
+use lib.ListN.{getD}
 use Rattle.std.specs.Keys.{rank}
 use Rattle.std.specs.Orderings.{thenBy}
 use Rattle.std.specs.declared.cmp.Ordering.{Ordering}
@@ -17,3 +19,7 @@ cellsRank (x ∷ xs) (y ∷ ys) = thenBy (rank x y) (cellsRank xs ys)
 -- rows are ordered by the first cell that differs
 abbrev pub rowRank : Row → Row → Ordering
 rowRank a b = cellsRank (a .cells) (b .cells)
+
+-- two rows have the same first n cells
+abbrev pub AlikeBelow : ℕ → Row → Row → Type 0
+AlikeBelow n a b = (k : ℕ) → k < n → getD (a .cells) k 0 ≡ getD (b .cells) k 0
