@@ -1,4 +1,3 @@
-ghost use mathlib.Core.Path.{_≡_};
 ghost use Rattle.event.specs.Forms.{eventRank};
 use crate::event::Event;
 use ordered::number::NumberRank;

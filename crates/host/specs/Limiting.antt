@@ -1,15 +1,12 @@
 -- Guards by limits: what each looks at, how it compares, and the setting of one.
-use Prim.Native.Nat.{ℕ, zero, suc}
-use mathlib.Core.Bool.{Bool, true, false, cond, _&&_}
+use Prim.Native.Nat.{ℕ}
+use mathlib.Core.Bool.{Bool, false, cond, _&&_}
 use mathlib.Core.List.{List, [], _∷_}
 use lib.Dec.{eqb, ltb, leb}
-use lib.ListN.{getD, set}
+use lib.ListN.{getD}
 use Rattle.std.specs.declared.option.Option.{Option}
 use Rattle.std.specs.declared.option.Option.the-variants.{Some, None}
-use Rattle.std.specs.declared.result.Result.{Result}
-use Rattle.std.specs.declared.result.Result.the-variants.{Ok, Err}
 use Rattle.fault.specs.Asking.{Asked, askedOfFields}
-use Rattle.fault.specs.declared.fault.Fault.{Fault}
 use Rattle.fault.specs.declared.fault.Question.the-variants.{SettingInRange}
 use Rattle.event.specs.Forms.{firstArgument, secondArgument}
 use Rattle.event.specs.declared.event.Event.{Event}

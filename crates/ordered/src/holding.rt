@@ -59,9 +59,9 @@ impl<'a, T: Rank + Copy> Ordered<'a, T> {
         ensures holds_exactly_old_and_new_unless_one_is_left_out { λ r. ⌜ HoldsExactly (held (now (self .entry))) x (held (now (self .exit))) r ⌝ }
         ensures leaves_out_only_what_is_above { λ _. ⌜ LeavesOutAbove rank (held (now (self .entry))) x (held (now (self .exit))) ⌝ }
     {
-        let used = self.used;
-        let (now_used, over) = place(self.places, used, x);
-        self.used = now_used;
+        let before = self.used;
+        let (after, over) = place(self.places, before, x);
+        self.used = after;
         over
     }
 }

@@ -1,4 +1,3 @@
-ghost use mathlib.Core.Path.{_≡_};
 ghost use Rattle.std.specs.Keys.{rank};
 use crate::rank::Rank;
 use std::cmp::Ordering;

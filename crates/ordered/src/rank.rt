@@ -2,7 +2,7 @@ ghost use mathlib.Core.Path.{_≡_};
 ghost use denote.Ref.{now};
 ghost use Rattle.std.specs.Orderings.{reversed};
 ghost use Rattle.std.specs.declared.cmp.Ordering.{Ordering};
-ghost use Rattle.std.specs.declared.cmp.Ordering.the-variants.{Less, Equal, Greater};
+ghost use Rattle.std.specs.declared.cmp.Ordering.the-variants.{Less, Equal};
 use std::cmp::Ordering;
 
 /// A total order.

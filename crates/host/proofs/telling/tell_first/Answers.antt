@@ -1,6 +1,5 @@
-use Prim.Native.Nat.{_<_, _≤_}
 use mathlib.Core.Path.{_≡_, ap}
-use lib.ListN.{length, take}
+use lib.ListN.{take}
 use native.Mathlib.Omega.{arith}
 use Rattle.std.proofs.shelf.Lists.{take-all}
 use Rattle.host.proofs.Passed.{told-more, told-as}

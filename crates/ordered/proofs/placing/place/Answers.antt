@@ -3,7 +3,7 @@ use mathlib.Core.Bool.{Bool}
 use mathlib.Core.List.{List}
 use Prim.Native.Nat.{ℕ, _≤_}
 use native.Mathlib.Omega.{arith}
-use lib.ListN.{length, take, drop}
+use lib.ListN.{length, take}
 use Rattle.std.proofs.shelf.Lists.{length-take, length-take-le}
 use Rattle.ordered.specs.Order.{Order, kept, spills}
 use Rattle.ordered.proofs.Laws.{grows, stays-rising, nothing-else, holds-exactly, leaves-out-above}

@@ -1,7 +1,5 @@
 use Prim.Native.Nat.{ℕ, _-_, _<_, _≤_}
 use mathlib.Core.Path.{_≡_}
-use mathlib.Core.Bool.{cond}
-use lib.Dec.{eqb}
 use lib.ListN.{getD}
 use Rattle.ordered.specs.Seeking.{shiftedAt}
 use Rattle.ordered.proofs.placing.shift.Given as given

@@ -1,7 +1,6 @@
 use mathlib.Core.Path.{_≡_, refl}
-use mathlib.Core.List.{List, _∷_}
+use mathlib.Core.List.{_∷_}
 use Rattle.std.specs.declared.option.Option.{Option}
-use Rattle.event.specs.declared.event.Event.{Event}
 use Rattle.host.specs.Tallying.{heard, tallyAnswer}
 use Rattle.host.specs.declared.tally.Tally.{Tally}
 use Rattle.host.proofs.Tables.{mapped, everywhere}
