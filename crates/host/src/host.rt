@@ -6,6 +6,7 @@ use event::event::Event;
 
 /// What answers guards. It refuses neither a question nor an event.
 pub trait GuardHost {
+    /// A yes or no for every list of events still to be told, guard, event, outer and inner variable.
     ghost meaning: { Self → Meaning };
 
     /// Whether a guard holds for an event under the variables.

@@ -10,10 +10,13 @@ pub trait Rank: Sized {
     /// How the first stands to the second.
     ghost rank: { Self → Self → Ordering };
 
+    /// Turned round, the answer is the reverse.
     law flip: { (x y : Self) → rank x y ≡ reversed (rank y x) };
 
+    /// Less and less make less.
     law chain: { (x y z : Self) → rank x y ≡ Less → rank y z ≡ Less → rank x z ≡ Less };
 
+    /// Equal means the same value.
     law same: { (x y : Self) → rank x y ≡ Equal → x ≡ y };
 
     fn compare(&self, other: &Self) -> Ordering
