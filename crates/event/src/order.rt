@@ -1,7 +1,5 @@
 ghost use Rattle.event.specs.Forms.{event_rank};
-ghost use Rattle.ordered.proofs.Then.{numbers, chain-then};
-ghost use Rattle.std.specs.Ordering as Orderings;
-ghost use Rattle.std.proofs.Common.{rules};
+ghost use Rattle.event.specs.Laws.{event_order};
 
 use crate::event::Event;
 use ordered::rank::Rank;
@@ -10,15 +8,11 @@ use std::cmp::Ordering;
 impl Rank for Event {
     ghost rank = { event_rank };
 
-    ghost flip = { Prim.search rules };
+    ghost flip = { event_order.flip };
 
-    ghost chain = { λ x y z.
-        chain-then Orderings.nat_cmp numbers x.label y.label z.label _ _ _
-        (chain-then Orderings.nat_cmp numbers x.count y.count z.count _ _ _
-        (chain-then Orderings.nat_cmp numbers x.first y.first z.first _ _ _
-        (numbers.chain x.second y.second z.second))) };
+    ghost chain = { event_order.chain };
 
-    ghost same = { Prim.search rules };
+    ghost same = { event_order.same };
 
     fn compare(&self, other: &Event) -> Ordering {
         let by_second = self.second.compare(&other.second);

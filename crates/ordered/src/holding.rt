@@ -43,16 +43,16 @@ impl<'a, T: Rank + Copy> Ordered<'a, T> {
 
     /// Puts an element in, unless it is there. Where there is no room for all, the last is left out, and the answer is yes.
     pub fn insert(&mut self, x: T) -> bool
-        ensures holds_the_first_in_order { held self.new ≡ kept rank (room self.old) (held self.old) x }
-        ensures says_whether_one_is_left_out { result ≡ spills rank (room self.old) (held self.old) x }
+        ensures holds_the_first_in_order { held self.new ≡ kept T.rank (room self.old) (held self.old) x }
+        ensures says_whether_one_is_left_out { result ≡ spills T.rank (room self.old) (held self.old) x }
         ensures leaves_later_places { (n : ℕ) → length (held self.new) ≤ n → places_from n self.new ≡ places_from n self.old }
         ensures holds_no_fewer { length (held self.old) ≤ length (held self.new) }
         ensures keeps_its_room { room self.new ≡ room self.old }
         ensures keeps_its_lender { self.new.places.ghost_name ≡ self.old.places.ghost_name }
-        ensures stays_rising { StaysRising rank (held self.old) (held self.new) }
+        ensures stays_rising { StaysRising T.rank (held self.old) (held self.new) }
         ensures holds_nothing_else { HoldsNothingElse (held self.old) x (held self.new) }
         ensures holds_exactly_old_and_new_unless_one_is_left_out { HoldsExactly (held self.old) x (held self.new) result }
-        ensures leaves_out_only_what_is_above { LeavesOutAbove rank (held self.old) x (held self.new) }
+        ensures leaves_out_only_what_is_above { LeavesOutAbove T.rank (held self.old) x (held self.new) }
     {
         let before = self.used;
         let (after, over) = place(self.places, before, x);

@@ -1,5 +1,6 @@
 ghost use Rattle.std.specs.Ordering.{nat_cmp as rank};
-ghost use Rattle.std.proofs.Common.{rules};
+ghost use Rattle.std.specs.Cmp.{nat_cmp_total};
+ghost use Rattle.std.proofs.lemmas.Map.Lookups.{exact_unsigned};
 
 use crate::rank::Rank;
 use std::cmp::Ordering;
@@ -7,11 +8,11 @@ use std::cmp::Ordering;
 impl Rank for u16 {
     ghost rank = { rank };
 
-    ghost flip = { Prim.search rules };
+    ghost flip = { nat_cmp_total.antisymm };
 
-    ghost chain = { Prim.search rules };
+    ghost chain = { nat_cmp_total.trans };
 
-    ghost same = { Prim.search rules };
+    ghost same = { exact_unsigned };
 
     fn compare(&self, other: &u16) -> Ordering {
         self.cmp(other)

@@ -8,7 +8,7 @@ use std::cmp::Ordering;
 
 /// Where x is met, or else where it comes in.
 fn seek<T: Rank>(xs: &[T], x: &T) -> Result<usize, usize>
-    ensures { MatchResult result (MetAt rank xs.now x.now) (ComesAt rank xs.now x.now) }
+    ensures { MatchResult result (MetAt T.rank xs.now x.now) (ComesAt T.rank xs.now x.now) }
 {
     for (i, y) in xs.iter().enumerate() {
         match x.compare(y) {
@@ -38,9 +38,9 @@ fn shift<T: Copy>(places: &mut [T], at: usize, end: usize, x: T)
 fn put<T: Rank + Copy>(places: &mut [T], len: usize, x: T) -> (usize, bool)
     requires { len ≤ length places.old }
     ensures fits { result.0 ≤ length places.new }
-    ensures held { take result.0 places.new ≡ kept rank (length places.old) (take len places.old) x }
+    ensures held { take result.0 places.new ≡ kept T.rank (length places.old) (take len places.old) x }
     ensures later { drop result.0 places.new ≡ drop result.0 places.old }
-    ensures over { result.1 ≡ spills rank (length places.old) (take len places.old) x }
+    ensures over { result.1 ≡ spills T.rank (length places.old) (take len places.old) x }
 {
     let room = places.len();
     match seek(&places[0..len], &x) {
@@ -74,14 +74,14 @@ pub(crate) fn pick<T: Copy>(places: &[T], used: usize, i: usize) -> Option<T>
 
 /// Puts x among the first `used` places, with all that is promised of it.
 pub(crate) fn place<T: Rank + Copy>(places: &mut [T], used: usize, x: T) -> (usize, bool)
-    ensures held { take result.0 places.new ≡ kept rank (length places.old) (take used places.old) x }
-    ensures over { result.1 ≡ spills rank (length places.old) (take used places.old) x }
+    ensures held { take result.0 places.new ≡ kept T.rank (length places.old) (take used places.old) x }
+    ensures over { result.1 ≡ spills T.rank (length places.old) (take used places.old) x }
     ensures later { (n : ℕ) → length (take result.0 places.new) ≤ n → drop n places.new ≡ drop n places.old }
     ensures grows { length (take used places.old) ≤ length (take result.0 places.new) }
-    ensures rises { StaysRising rank (take used places.old) (take result.0 places.new) }
+    ensures rises { StaysRising T.rank (take used places.old) (take result.0 places.new) }
     ensures only { HoldsNothingElse (take used places.old) x (take result.0 places.new) }
     ensures exactly { HoldsExactly (take used places.old) x (take result.0 places.new) result.1 }
-    ensures above { LeavesOutAbove rank (take used places.old) x (take result.0 places.new) }
+    ensures above { LeavesOutAbove T.rank (take used places.old) x (take result.0 places.new) }
 {
     let len = count(places, used);
     put(places, len, x)

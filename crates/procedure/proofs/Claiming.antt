@@ -1,20 +1,11 @@
 -- Claims of children: one after the other, and what they come to.
-use Rattle.std.proofs.Common.{◌≡◌, ℕ, zero, suc, ◌+◌, ◌<◌, ◌≤◌, Bool, true, false, cond, not, ◌&&◌, ◌||◌, eqb, ltb, ◌≢◌, List, [], ◌∷◌, ◌++◌, length, get_or, set, is_some, Some, None, Option, sym, refl, ap, ◌∙◌, subst, ⊎_elim, append_assoc, add-zero, arith}
-use Rattle.std.specs.Option.{option_to_list}
+use Rattle.std.proofs.Common.{◌≡◌, ℕ, suc, ◌+◌, ◌<◌, ◌≤◌, Bool, true, false, cond, not, ◌&&◌, ◌||◌, eqb, ltb, List, [], ◌∷◌, ◌++◌, length, get_or, set, is_some, Some, None, Option, sym, refl, ap, ◌∙◌, ⊎_elim, append_assoc, add-zero, arith}
 use Rattle.std.proofs.lemmas.List.{append-nil, length-set, get_or-set_same, get_or-set_other}
-use Rattle.std.proofs.lemmas.Bool.{cases_eq, cases_Bool, and_parts, or_left, or_right, not-true, not-false, ltb-true, ltb-false, lt-ltb, le-ltb, eq-eqb, ne_eqb, and_cases, and_left, and_right}
+use Rattle.std.proofs.lemmas.Bool.{cases_eq, cases_Bool, and_parts, or_left, or_right, not-true, not-false, ltb-true, ltb-false, lt-ltb, le-ltb, eq-eqb, ne_eqb, and_cases, and_right}
 use Rattle.notation.specs.Parts.{children_of}
 use Rattle.notation.specs.declared.node.Node.{Node}
 use Rattle.procedure.specs.Claims.{claims}
 use Rattle.procedure.specs.Scopes.{among, parent_from, parent_of, children_free}
-
-pub claims-more : (m : ℕ) (t u : List (Option ℕ)) (c : Option ℕ) (ks : List ℕ) → claims m t (option_to_list c) ≡ Some u → claims m t (option_to_list c ++ ks) ≡ claims m u ks
-claims-more m t u None ks h = let e : t ≡ u = cc in rw e refl
-claims-more m t u (Some k) ks h = grind arith
-
-pub claims-stop : (m : ℕ) (t : List (Option ℕ)) (c : Option ℕ) (ks : List ℕ) → claims m t (option_to_list c) ≡ None → claims m t (option_to_list c ++ ks) ≡ None
-claims-stop m t None ks h = let z : ◌≡◌ {A = ℕ} 0 1 = cc in absurd (omega arith)
-claims-stop m t (Some k) ks h = grind arith
 
 among-append : (k : ℕ) (xs ys : List ℕ) → among k (xs ++ ys) ≡ (among k xs || among k ys)
 among-append k [] ys = refl

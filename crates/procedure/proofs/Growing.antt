@@ -1,10 +1,9 @@
 -- A draft that takes one node or one arrow more, and why it may not.
-use Rattle.std.proofs.Common.{◌≡◌, ℕ, suc, ◌+◌, ◌<◌, ◌≤◌, Bool, true, false, cond, not, ◌&&◌, ◌||◌, eqb, ltb, leb, List, [], ◌∷◌, ◌++◌, length, get_or, take, set, replicate, Some, None, Option, sym, refl, ap, ◌∙◌, subst, ⊎_elim, add-one, arith}
-use Rattle.std.proofs.lemmas.List.{length-set, length_push, length-take-le, take_more_set, take-append-le, get_or_append_left, get_or_push, get_or_past, get_or-take, get_or-replicate, length-replicate}
-use Rattle.std.proofs.lemmas.Bool.{cases_lt, and_parts, and_from, and_left, and_right, ltb-true, le-leb, lt-leb, cond-true, cond-false}
+use Rattle.std.proofs.Common.{◌≡◌, ℕ, ◌+◌, ◌<◌, ◌≤◌, Bool, true, false, cond, ◌&&◌, ltb, leb, List, [], ◌∷◌, ◌++◌, length, get_or, take, set, replicate, Some, None, Option, sym, refl, ap, ◌∙◌, ⊎_elim, arith}
+use Rattle.std.proofs.lemmas.List.{length-set, length_push, length-take-le, take_more_set, take-append-le, get_or_append_left, get_or_push, get_or_past, get_or-replicate, length-replicate}
+use Rattle.std.proofs.lemmas.Bool.{cases_lt, and_parts, and_from, and_right, ltb-true, le-leb, lt-leb}
 use Rattle.fault.specs.Asking.{refusal}
-use Rattle.fault.specs.declared.fault.Fault.{Fault}
-use Rattle.fault.specs.declared.fault.Question.TheVariants.{FieldsInRange, ChildrenFree, ArrowPlaced}
+use Rattle.fault.specs.declared.fault.Question.TheVariants.{FieldsInRange, ChildrenFree}
 use Rattle.notation.specs.Parts.{children_of, states_of, blank_node, blank_arrow}
 use Rattle.notation.specs.declared.node.Node.{Node}
 use Rattle.notation.specs.declared.arrow.Arrow.{Arrow}
@@ -15,7 +14,7 @@ use Rattle.procedure.specs.Drawings.{Drawing, grown}
 use Rattle.procedure.specs.Drafts.{drawn, Faithful}
 use Rattle.procedure.specs.Scopes.{among, parent_of, children_free, arrow_placed}
 use Rattle.procedure.specs.Claims.{claims}
-use Rattle.procedure.specs.Reading.{entry_asks, few}
+use Rattle.procedure.specs.Reading.{entry_asks}
 use Rattle.procedure.specs.Sound.{node_sound, arrow_sound, nodes_sound, arrows_sound}
 use Rattle.procedure.specs.declared.draft.Draft.{Draft}
 use Rattle.procedure.proofs.Claiming.{Table, parent-push, claims-yes, claims-no}
@@ -152,14 +151,3 @@ arrow-full d a place s ge =
     let l = arrows-length d s in
     let many' : leb (length ((drawn d).arrows ++ a ∷ [])) 256 ≡ false = lt-leb (length ((drawn d).arrows ++ a ∷ [])) 256 (rw length_push (omega arith)) in
     rw (and_right (leb (length (drawn d).nodes) 64) (leb (length ((drawn d).arrows ++ a ∷ [])) 256) many') refl
-
--- the arrow's automaton or one of its states is not there
-pub arrow-stray : (d : Draft) (a : Arrow) (place : ℕ) → Faithful d → d.arrow_count < 256 → arrow_placed (drawn d).nodes a ≡ false
-    → refusal (entry_asks (drawn d) place true (Some (e.Arrow a))) ≡ Some (record { question = ArrowPlaced; place = place })
-arrow-stray d a place s lt p =
-    let l = nodes-length d s in
-    let l' = arrows-length d s in
-    let w = s.few-nodes in
-    let many : leb (length (drawn d).nodes) 64 ≡ true = le-leb (length (drawn d).nodes) 64 (omega arith) in
-    let many' : leb (length ((drawn d).arrows ++ a ∷ [])) 256 ≡ true = le-leb (length ((drawn d).arrows ++ a ∷ [])) 256 (rw length_push (omega arith)) in
-    rw (many, many', p) refl

@@ -4,7 +4,6 @@ pub mod Fields
 pub mod Fitting
 pub mod Growing
 pub mod Laying
-pub mod Places
 pub mod Reached
 pub mod Readings
 pub mod Stepping

@@ -1,11 +1,11 @@
 -- How far a reading has come.
-use Rattle.std.proofs.Common.{◌≡◌, ℕ, zero, suc, ◌+◌, ◌-◌, ◌<◌, ◌≤◌, true, false, cond, ltb, leb, List, length, Some, None, sym, refl, ap, ◌∙◌, ⊎_elim, add-one, arith, below_more}
+use Rattle.std.proofs.Common.{◌≡◌, ℕ, zero, suc, ◌+◌, ◌-◌, ◌<◌, ◌≤◌, ltb, List, length, Some, None, sym, refl, ap, ◌∙◌, ⊎_elim, add-one, arith, below_more}
 use Rattle.std.proofs.lemmas.Bool.{cases_Bool, lt-ltb, le-ltb, le-leb}
 use Rattle.fault.specs.Asking.{refusal}
 use Rattle.fault.specs.declared.fault.Fault.{Fault}
 use Rattle.fault.proofs.Refusals.{all_asked, first-asked}
 use Rattle.record.specs.Bytes.{field_at}
-use Rattle.procedure.specs.Drawings.{Drawing, nothing_drawn, grown}
+use Rattle.procedure.specs.Drawings.{Drawing, grown}
 use Rattle.procedure.specs.Reading.{start_of, records_from, records, entry_here, drawn_by, record_asks, file_asks}
 
 -- the first i records answered yes to all, they end at `at` and drew d
@@ -16,10 +16,6 @@ pub record Reached (b : List ℕ) (i at : ℕ) (d : Drawing) : Type 0 where
   pub within : at ≤ length b
   pub low : i ≤ at
   pub counted : records_from (length b - i) b i ≡ records b
-
-pub reached-none : (b : List ℕ) (d : Drawing) → d ≡ nothing_drawn → Reached b 0 0 d
-reached-none b d e =
-    record { start = refl; passed = λ j h. absurd (omega arith); drawing = e; within = omega arith; low = omega arith; counted = ap (λ s. records_from s b 0) (omega arith) }
 
 records-step : (b : List ℕ) (i s t : ℕ) → s ≡ suc t → start_of b i < length b → records_from s b i ≡ records_from t b (suc i)
 records-step b i s t e lt = rw (e, lt-ltb (start_of b i) (length b) lt) refl

@@ -1,24 +1,20 @@
 -- What a reading comes to, in the words of the questions and of the layout.
-use Rattle.std.proofs.Common.{◌≡◌, ℕ, zero, suc, ◌+◌, ◌-◌, ◌<◌, ◌≤◌, Bool, true, false, cond, ◌&&◌, ltb, leb, List, [], ◌∷◌, ◌++◌, length, get_or, is_ok, Some, None, Ok, Err, Option, Result, sym, refl, ap, ◌∙◌, ⊎_elim, arith}
-use Rattle.std.proofs.lemmas.Bool.{cases_Bool, and_parts, and_from, ltb-true, ltb-false}
-use Rattle.fault.specs.Asking.{Asked, refusal, asked_up_to, answer_or}
+use Rattle.std.proofs.Common.{◌≡◌, ℕ, zero, suc, ◌+◌, ◌<◌, ◌≤◌, Bool, true, ◌&&◌, ltb, leb, List, [], ◌∷◌, ◌++◌, length, get_or, is_ok, Some, None, Ok, Err, Option, Result, sym, refl, ap, ◌∙◌, ⊎_elim, arith}
+use Rattle.std.proofs.lemmas.Bool.{cases_Bool, and_parts, ltb-false}
+use Rattle.fault.specs.Asking.{refusal, asked_up_to, answer_or}
 use Rattle.fault.specs.declared.fault.Fault.{Fault}
 use Rattle.fault.specs.declared.fault.Question.{Question}
 use Rattle.fault.specs.declared.fault.Question.TheVariants.{FileWithinLimit, RecordWhole, KindKnown, LengthExact, FieldsInRange, ChildrenFree, ArrowPlaced, OneRoot, BindersFew, VariablesInScope}
 use Rattle.fault.proofs.Refusals.{refusal-more, refusal-stop, refusal-parts, asked-each, yes-first, all_yes, no-refusal, first-no, refused-by}
 use Rattle.notation.specs.Parts.{blank_arrow}
-use Rattle.notation.specs.declared.node.Node.{Node}
-use Rattle.notation.specs.declared.arrow.Arrow.{Arrow}
-use Rattle.record.specs.Bytes.{field_at}
 use Rattle.record.specs.Frames.{whole, known, exact, frame_asks}
 use Rattle.record.proofs.Below.{all_from}
 use Rattle.procedure.specs.Drawings.{Drawing, nothing_drawn, grown}
 use Rattle.procedure.specs.Framed.{Framed}
-use Rattle.procedure.specs.Layout.{Lays}
-use Rattle.procedure.specs.Procedures.{Exactly, RefusedExactly, AcceptedExactly, LaidOutExactly}
+use Rattle.procedure.specs.Procedures.{RefusedExactly, AcceptedExactly, LaidOutExactly}
 use Rattle.procedure.specs.Reading.{start_of, records_from, records, entry_here, drawn_by, ranged, few, entry_free, entry_placed, entry_asks, record_asks, root_asks, binder_asks, scope_asks, whole_asks, file_asks, asks, reading, answer_of, left_by, Refused, Accepted}
 use Rattle.procedure.specs.Scopes.{attached, binders_few, in_scope}
-use Rattle.procedure.specs.Sound.{nodes_sound, arrows_sound, whole_sound, sound}
+use Rattle.procedure.specs.Sound.{nodes_sound, arrows_sound, sound}
 use Rattle.procedure.proofs.Laying.{laid_out, laid-once}
 use Rattle.procedure.proofs.Stepping.{whole_is}
 
@@ -93,9 +89,6 @@ accepted-framed b h =
 
 ok-err : {d : ℕ} {f : Fault} → ◌≡◌ {A = Result ℕ Fault} (Ok d) (Err f) → ⊥
 ok-err e = let z : ◌≡◌ {A = ℕ} 0 1 = cc in omega arith
-
-none-some : {f : Fault} → None ≡ Some f → ⊥
-none-some e = let z : ◌≡◌ {A = ℕ} 0 1 = cc in omega arith
 
 module _ (b : List ℕ) where
   refused-then : (o : Option Fault) → refusal (asks b) ≡ o → (f : Fault) → answer_of (answer_or o (drawn_by b (records b))) ≡ Err f → Refused b f

@@ -1,21 +1,19 @@
 -- The questions of a whole file, as the tables of a draft answer them.
-use Rattle.std.proofs.Common.{◌≡◌, ℕ, zero, suc, ◌+◌, ◌-◌, ◌<◌, ◌≤◌, Bool, true, false, cond, not, ◌&&◌, ◌||◌, eqb, ltb, leb, ◌⊎◌, List, [], ◌∷◌, length, get_or, take, is_some, Some, None, Option, sym, refl, ap, ◌∙◌, inl, inr, ⊎_elim, arith}
-use Rattle.std.proofs.lemmas.List.{get_or-take, get_or_past}
-use Rattle.std.proofs.lemmas.Bool.{cases_lt, cases_Bool, and_parts, ltb-true, lt-ltb, eq-eqb, ne_eqb, or_left, or_right, or_from}
-use Rattle.fault.specs.Asking.{Asked, refusal, asked_up_to}
-use Rattle.fault.specs.declared.fault.Fault.{Fault}
+use Rattle.std.proofs.Common.{◌≡◌, ℕ, zero, suc, ◌+◌, ◌<◌, ◌≤◌, Bool, true, false, cond, ◌&&◌, eqb, ltb, ◌⊎◌, List, [], ◌∷◌, length, get_or, is_some, Some, None, Option, sym, refl, ap, ◌∙◌, inl, inr, ⊎_elim, arith}
+use Rattle.std.proofs.lemmas.List.{get_or_past}
+use Rattle.std.proofs.lemmas.Bool.{cases_lt, cases_Bool, and_parts, ltb-true, lt-ltb, eq-eqb, ne_eqb, or_left, or_from}
+use Rattle.fault.specs.Asking.{refusal, asked_up_to}
 use Rattle.fault.specs.declared.fault.Question.{Question}
 use Rattle.fault.specs.declared.fault.Question.TheVariants.{OneRoot}
 use Rattle.fault.proofs.Refusals.{all_asked, first-asked}
 use Rattle.notation.specs.Parts.{children_of, binds, states_of, blank_node, blank_arrow}
 use Rattle.notation.specs.declared.node.Node.{Node}
-use Rattle.notation.specs.declared.arrow.Arrow.{Arrow}
 use Rattle.record.proofs.Below.{all-at}
 use Rattle.procedure.specs.Drafts.{drawn, Faithful}
 use Rattle.procedure.specs.Drawings.{Drawing}
 use Rattle.procedure.specs.Reading.{root_asks}
-use Rattle.procedure.specs.Scopes.{among, parent_from, parent_of, binder_at, binders_from, binders_within, binders_above, arrow_placed, attached}
-use Rattle.procedure.specs.Sound.{arrow_sound, arrows_sound}
+use Rattle.procedure.specs.Scopes.{among, parent_from, parent_of, binder_at, binders_from, binders_within, arrow_placed, attached}
+use Rattle.procedure.specs.Sound.{arrow_sound}
 use Rattle.procedure.specs.declared.draft.Draft.{Draft}
 use Rattle.procedure.proofs.Growing.{nodes-length, arrows-length}
 
@@ -44,9 +42,6 @@ pub above-end : (ns : List Node) (s k above all : ℕ) → parent_of ns k ≡ No
 above-end ns zero k above all h i = omega arith
 above-end ns (suc s) k above all h i = let u : binders_within (suc s) ns k ≡ 0 = ap (binders_from (binders_within s ns) ns) h in omega arith
 
-pub above-all : (ns : List Node) (s k above all : ℕ) → s ≡ 0 → above + binders_within s ns k ≡ all → above ≡ all
-above-all ns s k above all e i = let u : binders_within s ns k ≡ 0 = ap (λ t. binders_within t ns k) e in omega arith
-
 -- a question of each number below n, when the first so many are answered yes
 pub each-yes : (q : Question) (n : ℕ) (f : ℕ → Bool) → ((k : ℕ) → k < n → f k ≡ true) → refusal (asked_up_to n (λ k. record { question = q; place = k; yes = f k } ∷ [])) ≡ None
 each-yes q n f h = all_asked n (λ k. record { question = q; place = k; yes = f k } ∷ []) (λ k lt. rw (h k lt) refl)
@@ -54,9 +49,6 @@ each-yes q n f h = all_asked n (λ k. record { question = q; place = k; yes = f 
 pub one-no : (q : Question) (n i : ℕ) (f : ℕ → Bool) → i < n → ((k : ℕ) → k < i → f k ≡ true) → f i ≡ false → refusal (asked_up_to n (λ k. record { question = q; place = k; yes = f k } ∷ [])) ≡ Some (record { question = q; place = i })
 one-no q n i f lt h z =
     first-asked n i (λ k. record { question = q; place = k; yes = f k } ∷ []) (record { question = q; place = i }) lt (λ k l. rw (h k l) refl) (rw z refl)
-
-pub attached-child : (ns : List Node) (k : ℕ) → is_some (parent_of ns k) ≡ true → attached ns k ≡ true
-attached-child ns k h = or_right (eqb (suc k) (length ns)) (is_some (parent_of ns k)) h
 
 -- every node but the last is a child
 pub root-yes : (d : Drawing) (m : ℕ) → length d.nodes ≡ suc m → ((k : ℕ) → k < m → attached d.nodes k ≡ true) → refusal (root_asks d) ≡ None

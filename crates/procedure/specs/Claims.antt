@@ -1,5 +1,5 @@
 -- How the reader keeps track of children: a table that has each node's parent, and the claims that a new node makes.
-use Rattle.std.specs.Prelude.{◌≡◌, ℕ, Bool, true, false, cond, not, ◌&&◌, List, [], ◌∷◌, is_some, Some, None, Option, Result, MatchResult, nat_lt, slice_index_or, slice_set}
+use Rattle.std.specs.Prelude.{◌≡◌, ℕ, cond, not, ◌&&◌, List, [], ◌∷◌, is_some, Some, None, Option, Result, MatchResult, nat_lt, slice_index_or, slice_set}
 use Rattle.fault.specs.declared.fault.Fault.{Fault}
 use Rattle.fault.specs.declared.fault.Question.TheVariants.{ChildrenFree}
 

@@ -1,5 +1,5 @@
 -- What a procedure holds: its nodes and its arrows, each numbered from 0 in file order. The last node is the root.
-use Rattle.std.specs.Prelude.{ℕ, List, [], ◌∷◌, ◌++◌, Some, None, Option}
+use Rattle.std.specs.Prelude.{List, [], ◌∷◌, ◌++◌, Some, None, Option}
 use Rattle.notation.specs.declared.node.Node.{Node}
 use Rattle.notation.specs.declared.arrow.Arrow.{Arrow}
 use Rattle.record.specs.declared.entry.Entry.{Entry}

@@ -1,14 +1,11 @@
 -- How a file lays out a drawing: the records of its nodes and arrows, one after the other.
-use Rattle.std.specs.Prelude.{◌≡◌, ℕ, ◌+◌, ◌*◌, ◌<◌, ◌≤◌, Bool, true, false, cond, List, [], ◌∷◌, ◌++◌, length, get_or, take, Some, None, Option, slice_index_or}
+use Rattle.std.specs.Prelude.{◌≡◌, ℕ, ◌+◌, ◌*◌, ◌≤◌, cond, List, [], ◌∷◌, ◌++◌, length, get_or, take, Some, None, Option, slice_index_or}
 use Rattle.notation.specs.Parts.{blank_state}
 use Rattle.notation.specs.declared.node.Mark.{Mark}
 use Rattle.notation.specs.declared.node.Mark.TheVariants.{Unmarked, Shallow, Deep}
 use Rattle.notation.specs.declared.node.State.{State}
-use Rattle.notation.specs.declared.node.States.{States}
 use Rattle.notation.specs.declared.node.Labels.{Labels}
-use Rattle.notation.specs.declared.node.Node.{Node}
 use Rattle.notation.specs.declared.node.Node.TheVariants.{Closure, Automaton, Sequence, Guard, Choice, Synchronisation, QuantifiedChoice, QuantifiedSynchronisation}
-use Rattle.notation.specs.declared.arrow.Arrow.{Arrow}
 use Rattle.notation.specs.declared.arrow.Argument.{Argument}
 use Rattle.notation.specs.declared.arrow.Argument.TheVariants.{Absent, Constant, Outer, Inner}
 use Rattle.record.specs.declared.entry.Entry.{Entry}

@@ -1,11 +1,10 @@
 -- Reading a file: the questions in the order in which they are asked, and what a file gives that answers yes to all.
-use Rattle.std.specs.Prelude.{◌≡◌, ℕ, zero, suc, ◌+◌, Bool, true, false, cond, not, ◌&&◌, List, [], ◌∷◌, ◌++◌, length, Some, None, Ok, Err, Option, Result, nat_le, nat_lt, slice_index_or}
+use Rattle.std.specs.Prelude.{ℕ, zero, suc, ◌+◌, Bool, true, false, cond, ◌&&◌, List, [], ◌∷◌, ◌++◌, length, Some, None, Ok, Err, Option, Result, nat_le, nat_lt, slice_index_or}
 use Rattle.fault.specs.Asking.{Asked, refusal, asked_up_to, AllYes, FirstNo, answer_or}
 use Rattle.fault.specs.declared.fault.Fault.{Fault}
 use Rattle.fault.specs.declared.fault.Question.TheVariants.{FileWithinLimit, FieldsInRange, ChildrenFree, ArrowPlaced, OneRoot, BindersFew, VariablesInScope}
 use Rattle.notation.specs.Parts.{children_of, blank_arrow}
 use Rattle.notation.specs.declared.node.Node.{Node}
-use Rattle.notation.specs.declared.arrow.Arrow.{Arrow}
 use Rattle.record.specs.Bytes.{field_at}
 use Rattle.record.specs.Kinds.{kind_of}
 use Rattle.record.specs.Frames.{frame_asks}

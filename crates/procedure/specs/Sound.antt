@@ -1,9 +1,8 @@
 -- What holds of every procedure that was read, whatever file it came from.
-use Rattle.std.specs.Prelude.{ℕ, ◌+◌, ◌-◌, Bool, true, false, not, ◌&&◌, ◌||◌, List, [], length, get_or, take, is_some, Some, None, Option, ◌==◌, nat_le, nat_lt, slice_index, slice_index_or}
+use Rattle.std.specs.Prelude.{ℕ, ◌-◌, Bool, true, not, ◌&&◌, ◌||◌, List, [], length, get_or, take, is_some, Some, None, Option, ◌==◌, nat_le, nat_lt, slice_index, slice_index_or}
 use Rattle.notation.specs.Parts.{children_of, is_absent, blank_state, blank_node, blank_arrow}
 use Rattle.notation.specs.declared.node.Mark.{Mark}
 use Rattle.notation.specs.declared.node.Mark.TheVariants.{Unmarked, Shallow, Deep}
-use Rattle.notation.specs.declared.node.State.{State}
 use Rattle.notation.specs.declared.node.States.{States}
 use Rattle.notation.specs.declared.node.Labels.{Labels}
 use Rattle.notation.specs.declared.node.Node.{Node}

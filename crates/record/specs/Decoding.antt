@@ -1,5 +1,5 @@
 -- What the fields of the record that begins at `at` tell: a node or an arrow.
-use Rattle.std.specs.Prelude.{ℕ, ◌+◌, ◌*◌, Bool, cond, List, map, Some, None, Option, ◌==◌, nat_lt}
+use Rattle.std.specs.Prelude.{ℕ, ◌+◌, ◌*◌, cond, List, map, Some, None, Option, ◌==◌, nat_lt}
 use Rattle.std.specs.List.{range_with_len}
 use Rattle.notation.specs.Parts.{blank_state}
 use Rattle.notation.specs.declared.node.Mark.{Mark}

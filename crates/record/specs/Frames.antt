@@ -1,5 +1,5 @@
 -- Questions 2 to 4: the frame of the record that begins at `at`.
-use Rattle.std.specs.Prelude.{◌≡◌, ℕ, ◌+◌, ◌*◌, Bool, true, false, ◌&&◌, List, [], ◌∷◌, length, is_some, Some, None, Option, ◌==◌, nat_le}
+use Rattle.std.specs.Prelude.{ℕ, ◌+◌, Bool, false, ◌&&◌, List, [], ◌∷◌, length, is_some, Some, None, Option, ◌==◌, nat_le}
 use Rattle.record.specs.Bytes.{field_at}
 use Rattle.record.specs.Kinds.{kind_of, length_of, count_at}
 use Rattle.record.specs.declared.kind.Kind.{Kind}

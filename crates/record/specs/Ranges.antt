@@ -1,5 +1,5 @@
 -- The ranges of question 5: the fields of the record that begins at `at`.
-use Rattle.std.specs.Prelude.{ℕ, zero, suc, ◌+◌, ◌-◌, ◌*◌, Bool, true, false, not, ◌&&◌, ◌||◌, List, ◌==◌, nat_le, nat_lt}
+use Rattle.std.specs.Prelude.{ℕ, zero, suc, ◌+◌, ◌*◌, Bool, true, not, ◌&&◌, ◌||◌, List, ◌==◌, nat_le, nat_lt}
 use Rattle.record.specs.Bytes.{field_at}
 use Rattle.record.specs.declared.kind.Kind.{Kind}
 use Rattle.record.specs.declared.kind.Kind.TheVariants.{Automaton, Sequence, Closure, Guard, Choice, Synchronisation, QuantifiedChoice, QuantifiedSynchronisation, Arrow}

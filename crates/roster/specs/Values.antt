@@ -1,5 +1,5 @@
 -- What a roster tells of a type, which is unknown or has a list of different values.
-use Rattle.std.specs.Prelude.{◌≡◌, ℕ, ◌-◌, ◌<◌, cond, List, length, Some, None, Option, ◌==◌, ◌≢◌, slice_index}
+use Rattle.std.specs.Prelude.{ℕ, ◌-◌, ◌<◌, cond, List, length, Some, None, Option, ◌==◌, ◌≢◌, slice_index}
 use Rattle.std.specs.List.{slice_get}
 
 -- no value stands at two places

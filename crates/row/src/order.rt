@@ -1,6 +1,6 @@
 ghost use Rattle.std.specs.Prelude.{◌≡◌, ◌<◌, MatchOption, ◌≢◌, slice_index};
 ghost use Rattle.row.specs.Rows.{AlikeBelow, row_rank};
-ghost use Rattle.row.specs.Cells.{cells-flip, cells-chain, cells_same, same_row};
+ghost use Rattle.row.specs.Laws.{row_order};
 
 use crate::row::Row;
 use ordered::rank::Rank;
@@ -23,11 +23,11 @@ fn first_difference(a: &Row, b: &Row) -> Option<usize>
 impl Rank for Row {
     ghost rank = { row_rank };
 
-    ghost flip = { λ x y. cells-flip x.cells y.cells };
+    ghost flip = { row_order.flip };
 
-    ghost chain = { λ x y z. cells-chain x.cells y.cells z.cells };
+    ghost chain = { row_order.chain };
 
-    ghost same = { λ x y e. same_row x y (cells_same x.cells y.cells e) };
+    ghost same = { row_order.same };
 
     fn compare(&self, other: &Row) -> Ordering {
         match first_difference(self, other) {

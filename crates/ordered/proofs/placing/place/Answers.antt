@@ -2,11 +2,8 @@ use Rattle.std.proofs.Common.{◌≡◌, ℕ, ◌≤◌, Bool, List, length, tak
 use Rattle.std.proofs.lemmas.List.{length-take, length-take-le}
 use Rattle.ordered.specs.Order.{Order, kept, spills}
 use Rattle.ordered.proofs.Laws.{grows, stays-rising, nothing-else, holds-exactly, leaves-out-above}
-use Rattle.ordered.proofs.Used.{within, drop-on}
+use Rattle.ordered.proofs.Used.{drop-on}
 use Rattle.ordered.proofs.placing.place.Goals as goal
-
-pub put-requires : goal.put-requires
-put-requires g c = within c.args.places.now c.count-len.result c.args.used c.count-len.ensures.counts
 
 pub returns : goal.returns
 returns g c =

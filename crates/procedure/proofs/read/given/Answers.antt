@@ -1,4 +1,4 @@
-use Rattle.std.proofs.Common.{◌≡◌, ℕ, Ok, Err, Result, ◌∙◌, arith}
+use Rattle.std.proofs.Common.{ℕ, Ok, Err, Result, ◌∙◌, arith}
 use Rattle.fault.specs.declared.fault.Fault.{Fault}
 use Rattle.std.proofs.lemmas.List.{length-take-le}
 use Rattle.procedure.specs.Procedures.{drawing}
@@ -9,7 +9,7 @@ pub returns-in-Err : goal.returns-in-Err
 returns-in-Err c =
     let b = c.args.file.now in
     let r : Result ℕ Fault = Err c.in-Err.fault in
-    let e = read-refused b c.in-Err.fault (drawing c.new.result) c.in-Err.ensures c.new.ensures.holds-nothing in
+    let e = read-refused b c.in-Err.fault (drawing c.new.result) c.in-Err.ensures c.new.ensures.holds_nothing in
     record {
       answer = e.0;
       contents = e.1;

@@ -1,4 +1,4 @@
-use Rattle.std.proofs.Common.{◌≡◌, ◌+◌, ◌*◌, ◌<◌, ◌≤◌, true, false, sym, refl, ap, ◌∙◌, arith, rules}
+use Rattle.std.proofs.Common.{◌≡◌, ◌+◌, ◌*◌, false, refl, arith, rules}
 use Rattle.std.proofs.lemmas.Result.{err_from_is_err_and}
 use Rattle.notation.specs.Parts.{blank_state}
 use Rattle.record.specs.Bytes.{field_at}
@@ -13,23 +13,23 @@ loop-i-init c = (filled_none 32 blank_state (λ i. state_at c.args.bytes.now (c.
 
 pub loop-i-preserved : goal.loop-i-preserved
 loop-i-preserved c =
-    let h = c.in-ok-table.ensures in
-    let n = c.in-ok-count.ensures in (
-      filled_more 32 blank_state (λ i. state_at c.args.bytes.now (c.args.at + 8 + 4 * i)) c.loop-i.table c.loop-i.i c.in-ok-table.field-0 c.loop-i.invariant.0 (omega (arith, n)) h.1,
+    let h = c.in_ok-table.ensures in
+    let n = c.in_ok-count.ensures in (
+      filled_more 32 blank_state (λ i. state_at c.args.bytes.now (c.args.at + 8 + 4 * i)) c.loop-i.table c.loop-i.i c.in_ok-table.field-0 c.loop-i.invariant.0 (omega (arith, n)) h.1,
       all_more (λ i. state_fits c.args.bytes.now (c.args.at + 8 + 4 * i)) c.loop-i.i c.loop-i.invariant.1 h.0,
     )
 
-pub returns-in-err-table : goal.returns-in-err-table
-returns-in-err-table c =
-    let p = err_from_is_err_and c.from-residual-in-err-table.result c.from-residual-in-err-table.ensures.1 in
-    let h = c.in-err-table.ensures in
-    let n = c.in-ok-count.ensures in
+pub returns-in_err-table : goal.returns-in_err-table
+returns-in_err-table c =
+    let p = err_from_is_err_and c.from_residual-in_err-table.result c.from_residual-in_err-table.ensures.1 in
+    let h = c.in_err-table.ensures in
+    let n = c.in_ok-count.ensures in
     let s : all_below (field_at c.args.bytes.now (c.args.at + 4)) (λ i. state_fits c.args.bytes.now (c.args.at + 8 + 4 * i)) ≡ false =
     all-stop (λ i. state_fits c.args.bytes.now (c.args.at + 8 + 4 * i)) (field_at c.args.bytes.now (c.args.at + 4)) c.loop-i.i (omega (arith, n)) h.0 in
     rw (p.1, p.2) (search rules, h.1)
 
 pub returns : goal.returns
 returns c =
-    let n = c.in-ok-count.ensures in
-    let s = c.in-ok-start.ensures in
-    states-are c.args.bytes.now c.args.at c.in-ok-count.count c.in-ok-start.start c.loop-i.i c.loop-i.table n.0 s.1 (omega (arith, n)) n.1 (omega arith) c.loop-i.invariant.0 c.loop-i.invariant.1
+    let n = c.in_ok-count.ensures in
+    let s = c.in_ok-start.ensures in
+    states-are c.args.bytes.now c.args.at c.in_ok-count.count c.in_ok-start.start c.loop-i.i c.loop-i.table n.0 s.1 (omega (arith, n)) n.1 (omega arith) c.loop-i.invariant.0 c.loop-i.invariant.1

@@ -1,11 +1,8 @@
-use Rattle.std.proofs.Common.{◌≡◌, ◌<◌, sym, ◌∙◌}
 use Rattle.std.proofs.lemmas.List.{get_or-take}
 use Rattle.notation.specs.Parts.{blank_arrow}
 use Rattle.procedure.proofs.Wholes.{arrow-node}
 use Rattle.procedure.proofs.draft.Draft.arrow_at.Goals as goal
 
-pub returns : goal.returns
-returns c =
-    let e = get_or-take c.args.self.now.arrow_count c.args.self.now.arrows c.args.number blank_arrow c.requires.1 in
-    let n = arrow-node c.args.self.now c.args.number c.requires.0 c.requires.1 in
-    record { is = sym e; placed = rw e at n }
+pub returns-clause-placed : goal.returns-clause-placed
+returns-clause-placed c =
+    rw (get_or-take c.args.self.now.arrow_count c.args.self.now.arrows c.args.number blank_arrow c.requires.1) at (arrow-node c.args.self.now c.args.number c.requires.0 c.requires.1)
