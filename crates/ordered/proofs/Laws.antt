@@ -26,36 +26,36 @@ module _ {X : Type 0} (c : X → X → Ordering) where
   rising-take (suc k) [] r = tt
   rising-take (suc k) (x ∷ xs) r = (below-take x k xs r.0, rising-take k xs r.1)
 
-  pub below_in : (w y : X) (xs : List X) → Below c w xs → Memᴰ y xs → c w y ≡ Less
-  below_in w y [] b i = absurd (Memᴰ.not-nil i)
-  below_in w y (x ∷ xs) b i =
-      ⊎_elim (λ e. subst (λ (z : X). c w z ≡ Less) (sym e) b.0) (λ m. below_in w y xs b.1 m) (Memᴰ.cases_cons i)
+  pub below-in : (w y : X) (xs : List X) → Below c w xs → Memᴰ y xs → c w y ≡ Less
+  below-in w y [] b i = absurd (Memᴰ.not-nil i)
+  below-in w y (x ∷ xs) b i =
+      ⊎_elim (λ e. subst (λ (z : X). c w z ≡ Less) (sym e) b.0) (λ m. below-in w y xs b.1 m) (Memᴰ.cases_cons i)
 
-  in_take : (k : ℕ) (xs : List X) (y : X) → Memᴰ y (take k xs) → Memᴰ y xs
-  in_take zero xs y i = absurd (Memᴰ.not-nil i)
-  in_take (suc k) [] y i = absurd (Memᴰ.not-nil i)
-  in_take (suc k) (x ∷ xs) y i = ⊎_elim (λ e. Memᴰ.head e) (λ m. Memᴰ.tail (in_take k xs y m)) (Memᴰ.cases_cons i)
+  in-take : (k : ℕ) (xs : List X) (y : X) → Memᴰ y (take k xs) → Memᴰ y xs
+  in-take zero xs y i = absurd (Memᴰ.not-nil i)
+  in-take (suc k) [] y i = absurd (Memᴰ.not-nil i)
+  in-take (suc k) (x ∷ xs) y i = ⊎_elim (λ e. Memᴰ.head e) (λ m. Memᴰ.tail (in-take k xs y m)) (Memᴰ.cases_cons i)
 
-  left_out : (k : ℕ) (xs : List X) (y z : X) → Rising c xs → Memᴰ y xs → (Memᴰ y (take k xs) → ⊥) → Memᴰ z (take k xs) → c z y ≡ Less
-  left_out zero xs y z r i n j = absurd (Memᴰ.not-nil j)
-  left_out (suc k) [] y z r i n j = absurd (Memᴰ.not-nil j)
-  left_out (suc k) (x ∷ xs) y z r i n j =
+  left-out : (k : ℕ) (xs : List X) (y z : X) → Rising c xs → Memᴰ y xs → (Memᴰ y (take k xs) → ⊥) → Memᴰ z (take k xs) → c z y ≡ Less
+  left-out zero xs y z r i n j = absurd (Memᴰ.not-nil j)
+  left-out (suc k) [] y z r i n j = absurd (Memᴰ.not-nil j)
+  left-out (suc k) (x ∷ xs) y z r i n j =
       ⊎_elim
       (λ e. absurd (n (Memᴰ.head e)))
       (λ i'.
       ⊎_elim
-      (λ e. subst (λ (w : X). c w y ≡ Less) (sym e) (below_in x y xs r.0 i'))
-      (λ j'. left_out k xs y z r.1 i' (λ m. n (Memᴰ.tail m)) j')
+      (λ e. subst (λ (w : X). c w y ≡ Less) (sym e) (below-in x y xs r.0 i'))
+      (λ j'. left-out k xs y z r.1 i' (λ m. n (Memᴰ.tail m)) j')
       (Memᴰ.cases_cons j))
       (Memᴰ.cases_cons i)
 
-  in_insert : (xs : List X) (x y : X) → Memᴰ y (insert_ordered c xs x) → HeldOrNew xs x y
-  in_insert [] x y = λ i. ⊎_elim (λ e. inr e) (λ m. absurd (Memᴰ.not-nil m)) (Memᴰ.cases_cons i)
-  in_insert (w ∷ ws) x y =
+  pub in-insert : (xs : List X) (x y : X) → Memᴰ y (insert_ordered c xs x) → HeldOrNew xs x y
+  in-insert [] x y = λ i. ⊎_elim (λ e. inr e) (λ m. absurd (Memᴰ.not-nil m)) (Memᴰ.cases_cons i)
+  in-insert (w ∷ ws) x y =
       elim (c x w) as (λ r. Memᴰ y (by_rank r (x ∷ w ∷ ws) (w ∷ ws) (w ∷ insert_ordered c ws x)) → HeldOrNew (w ∷ ws) x y) [
         | Less ↦ (λ i. ⊎_elim (λ e. inr e) (λ m. inl m) (Memᴰ.cases_cons i))
         | Equal ↦ (λ i. inl i)
-        | Greater ↦ (λ i. ⊎_elim (λ e. inl (Memᴰ.head e)) (λ m. ⊎_elim (λ k. inl (Memᴰ.tail k)) (λ e. inr e) (in_insert ws x y m)) (Memᴰ.cases_cons i))
+        | Greater ↦ (λ i. ⊎_elim (λ e. inl (Memᴰ.head e)) (λ m. ⊎_elim (λ k. inl (Memᴰ.tail k)) (λ e. inr e) (in-insert ws x y m)) (Memᴰ.cases_cons i))
       ]
 
   longer : (xs : List X) (x : X) → length xs ≤ length (insert_ordered c xs x)
@@ -76,7 +76,7 @@ module _ {X : Type 0} (c : X → X → Ordering) where
     below-trans x y [] h b = tt
     below-trans x y (z ∷ zs) h b = (o.chain x y z h b.0, below-trans x y zs h b.1)
 
-    rising-insert : (xs : List X) (x : X) → Rising c xs → Rising c (insert_ordered c xs x)
+    pub rising-insert : (xs : List X) (x : X) → Rising c xs → Rising c (insert_ordered c xs x)
     rising-insert [] x r = (tt, tt)
     rising-insert (y ∷ ys) x r =
         let go : (k : Ordering) → c x y ≡ k → Rising c (by_rank k (x ∷ y ∷ ys) (y ∷ ys) (y ∷ insert_ordered c ys x)) =
@@ -87,7 +87,7 @@ module _ {X : Type 0} (c : X → X → Ordering) where
         ] in
         go (c x y) refl
 
-    in-back : (xs : List X) (x y : X) → HeldOrNew xs x y → Memᴰ y (insert_ordered c xs x)
+    pub in-back : (xs : List X) (x y : X) → HeldOrNew xs x y → Memᴰ y (insert_ordered c xs x)
     in-back [] x y i = ⊎_elim (λ m. absurd (Memᴰ.not-nil m)) (λ e. Memᴰ.head e) i
     in-back (w ∷ ws) x y i =
         let go : (k : Ordering) → c x w ≡ k → Memᴰ y (by_rank k (x ∷ w ∷ ws) (w ∷ ws) (w ∷ insert_ordered c ws x)) =
@@ -108,7 +108,7 @@ module _ {X : Type 0} (c : X → X → Ordering) where
       stays-rising r = rw is (rising-take n (insert_ordered c xs x) (rising-insert xs x r))
 
       pub nothing-else : HoldsNothingElse xs x after
-      nothing-else y i = in_insert xs x y (in_take n (insert_ordered c xs x) y (rw is at i))
+      nothing-else y i = in-insert xs x y (in-take n (insert_ordered c xs x) y (rw is at i))
 
       pub holds-exactly : (over : Bool) → over ≡ spills c n xs x → HoldsExactly xs x after over
       holds-exactly over is-over none y =
@@ -117,4 +117,4 @@ module _ {X : Type 0} (c : X → X → Ordering) where
 
       pub leaves-out-above : LeavesOutAbove c xs x after
       leaves-out-above r y z i out j =
-          left_out n (insert_ordered c xs x) y z (rising-insert xs x r) (in-back xs x y i) (λ m. out (rw is m)) (rw is at j)
+          left-out n (insert_ordered c xs x) y z (rising-insert xs x r) (in-back xs x y i) (λ m. out (rw is m)) (rw is at j)

@@ -1,3 +1,4 @@
+pub mod Alone
 pub mod Fitted
 pub mod Laws
 pub mod Steps

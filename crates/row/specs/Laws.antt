@@ -23,13 +23,16 @@ cells-chain (x ∷ xs) [] zs h k = absurd (true≢false (ap is_gt h))
 cells-chain (x ∷ xs) (y ∷ ys) [] h k = k
 cells-chain (x ∷ xs) (y ∷ ys) (z ∷ zs) h k = chain-then nat_cmp numbers x y z (cells_rank xs ys) (cells_rank ys zs) (cells_rank xs zs) (cells-chain xs ys zs) h k
 
-pub cells_same : (xs ys : List ℕ) → cells_rank xs ys ≡ Equal → xs ≡ ys
-cells_same [] [] e = refl
-cells_same [] (y ∷ ys) e = absurd (true≢false (ap is_lt e))
-cells_same (x ∷ xs) [] e = absurd (true≢false (ap is_gt e))
-cells_same (x ∷ xs) (y ∷ ys) e =
+pub cells-same : (xs ys : List ℕ) → cells_rank xs ys ≡ Equal → xs ≡ ys
+cells-same [] [] e = refl
+cells-same [] (y ∷ ys) e = absurd (true≢false (ap is_lt e))
+cells-same (x ∷ xs) [] e = absurd (true≢false (ap is_gt e))
+cells-same (x ∷ xs) (y ∷ ys) e =
     let b = same_then (nat_cmp x y) (cells_rank xs ys) e in
-    ap (λ (n : ℕ). n ∷ xs) (numbers.same x y b.0) ∙ ap (λ (cs : List ℕ). y ∷ cs) (cells_same xs ys b.1)
+    ap (λ (n : ℕ). n ∷ xs) (numbers.same x y b.0) ∙ ap (λ (cs : List ℕ). y ∷ cs) (cells-same xs ys b.1)
+
+pub cells_order : Order cells_rank
+cells_order = record { flip = cells-flip; chain = cells-chain; same = cells-same }
 
 -- a row is its cells
 pub same-row : (x y : Row) → x.cells ≡ y.cells → x ≡ y
@@ -39,4 +42,4 @@ same-row x y p = subst (λ (cs : List ℕ). (full : length cs ≡ 48) → x ≡ 
     with-proof cs f g = ap (λ h. let r : Row = record { cells = cs; full = h.0 } in r) (the_propositions (cs, tt) (f, tt) (g, tt))
 
 pub row_order : Order row_rank
-row_order = through cells_rank (λ (r : Row). r.cells) same-row (record { flip = cells-flip; chain = cells-chain; same = cells_same })
+row_order = through cells_rank (λ (r : Row). r.cells) same-row cells_order

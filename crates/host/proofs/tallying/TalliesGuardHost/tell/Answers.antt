@@ -1,15 +1,13 @@
-use Rattle.std.proofs.Common.{◌≡◌, ◌∷◌, Option, refl}
-use Rattle.host.specs.Tallying.{heard, tally_answer}
-use Rattle.host.specs.declared.tally.Tally.{Tally}
-use Rattle.host.proofs.Tables.{mapped, everywhere}
+use Rattle.std.proofs.Common.{map, None, sym, ◌∙◌, arith}
+use Rattle.std.proofs.lemmas.List.{length-map, ext_get_or, get_or-map}
+use Rattle.host.specs.Tallying.{heard}
 use Rattle.host.proofs.tallying.TalliesGuardHost.tell.Goals as goal
 
-pub returns : goal.returns
-returns c =
-    let a = c.args.self.now in
-    let b = c.hear.new.self in
-    let e = c.args.event in
-    record {
-      answers-as-after-the-event = λ w guard e' outer inner. everywhere 32 a.entries b.entries a.full b.full (λ (y x : Option Tally). tally_answer y w ≡ tally_answer x (e ∷ w)) refl (λ k l. c.hear.ensures.answers k w l) guard;
-      raises-every-entry-with-that-label = mapped 32 a.entries b.entries a.full b.full (heard e) c.hear.ensures.counts;
-    }
+pub returns-clause-raises_every_entry_with_that_label :
+    goal.returns-clause-raises_every_entry_with_that_label
+returns-clause-raises_every_entry_with_that_label c =
+    let before = c.args.self.now in
+    let after = c.hear.new.self in
+    let raise = heard c.args.event in
+    ext_get_or None after.entries (map raise before.entries) (omega (arith, before.full, after.full, length-map before.entries raise))
+    (λ k lt. c.hear.ensures.counts k (omega (arith, after.full)) ∙ sym (get_or-map raise before.entries k None None (omega (arith, before.full, after.full))))

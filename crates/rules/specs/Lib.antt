@@ -1,0 +1,11 @@
+pub mod Trees
+pub mod Cells
+pub mod Rules
+pub mod Chains
+pub mod Growing
+pub mod Moves
+pub mod Ends
+pub mod Instances
+pub mod InRange
+pub mod Candidates
+pub mod Laws
