@@ -6,9 +6,9 @@ mod report;
 mod tests;
 
 use crate::report::reported;
-use anyhow::anyhow;
 use std::fs::File;
 use std::io::Read;
+use std::process::ExitCode;
 use std::{env, io};
 
 /// One byte more than a procedure file may have: enough to see that it is too long.
@@ -21,32 +21,32 @@ fn bytes_of(rt: &HostRuntime, path: &str) -> io::Result<Vec<u8>> {
     Ok(bytes)
 }
 
-/// Prints the report of a file; an error where the file is refused or cannot be read.
-fn tell(rt: &HostRuntime, path: &str) -> anyhow::Result<()> {
+/// Prints the report of a file; a failure where the file is refused or cannot be read.
+fn tell(rt: &HostRuntime, path: &str) -> anyhow::Result<ExitCode> {
     let bytes = match bytes_of(rt, path) {
         Ok(bytes) => bytes,
         Err(error) => {
             eprintln!(rt; "logger: cannot read {path}: {error}")?;
-            return Err(error.into());
+            return Ok(ExitCode::FAILURE);
         }
     };
     let report = reported(rt.alloc(), &bytes)?;
     print!(rt; "{}", report.text)?;
     if report.sound {
-        Ok(())
+        Ok(ExitCode::SUCCESS)
     } else {
-        Err(anyhow!("the file is refused"))
+        Ok(ExitCode::FAILURE)
     }
 }
 
-fn main(rt: HostRuntime) -> anyhow::Result<()> {
+fn main(rt: HostRuntime) -> anyhow::Result<ExitCode> {
     let mut args = env::args(&rt)?;
     let _program = args.next();
     match args.next() {
         Some(path) => tell(&rt, path.as_str()),
         None => {
             eprintln!(rt; "logger: no file is named: write logger FILE")?;
-            Err(anyhow!("no file is named"))
+            Ok(ExitCode::FAILURE)
         }
     }
 }

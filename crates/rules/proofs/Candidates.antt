@@ -130,3 +130,69 @@ carried-listed (synchronisation labels a b) e v s f (inl c) = Memᴰ.append_left
 carried-listed (synchronisation labels a b) e v s f (inr c) = Memᴰ.append_right (candidates a v) (carried-listed b e v s.1 f c)
 carried-listed (quantified_choice xs b) e v s f c = in-under (λ x. candidates b (bound x v)) e xs c.0 c.1 (carried-listed b e (bound c.0 v) s f c.2)
 carried-listed (quantified_synchronisation xs labels b) e v s f c = in-under (λ x. candidates b (bound x v)) e xs c.0 c.1 (carried-listed b e (bound c.0 v) s f c.2)
+
+in-passing : (test : Event → Bool) (e : Event) (l : List Event) → test e ≡ true → Memᴰ e l → Memᴰ e (passing test l)
+unfolding passing
+in-passing test e [] t m = m
+in-passing test e (d ∷ l) t m =
+    ⊎_elim
+    (λ q. let yes : test d ≡ true = subst (λ (z : Event). test z ≡ true) q t in rw yes (Memᴰ.head q))
+    (λ k. kept (test d) (in-passing test e l t k))
+    (Memᴰ.cases_cons m)
+  where
+    kept : (b : Bool) → Memᴰ e (passing test l) → Memᴰ e (cond b (d ∷ passing test l) (passing test l))
+    kept true i = Memᴰ.tail i
+    kept false i = i
+
+out-passing : (test : Event → Bool) (e : Event) (l : List Event) → Memᴰ e (passing test l) → test e ≡ true
+unfolding passing
+out-passing test e [] m = absurd (Memᴰ.not-nil m)
+out-passing test e (d ∷ l) m = at (test d) refl (λ k. out-passing test e l k) m
+  where
+    at : (b : Bool) → test d ≡ b → (Memᴰ e (passing test l) → test e ≡ true) → Memᴰ e (cond b (d ∷ passing test l) (passing test l)) → test e ≡ true
+    at true is below k = ⊎_elim (λ q. ap test q ∙ is) below (Memᴰ.cases_cons k)
+    at false is below k = below k
+
+has-one : (r : Cells) (l : List Cells) → Memᴰ r l → has_one l ≡ true
+has-one r [] m = absurd (Memᴰ.not-nil m)
+has-one r (x ∷ l) m = refl
+
+one-had : (l : List Cells) → has_one l ≡ true → (r : Cells) × Memᴰ r l
+one-had [] h = absurd (true≢false (sym h))
+one-had (x ∷ l) h = (x, Memᴰ.head refl)
+
+or-right : (b c : Bool) → c ≡ true → b || c ≡ true
+or-right true c h = refl
+or-right false c h = h
+
+module _ (t : Tree) (g : Guards) (e : Event) where
+  some-move : (l : List Cells) (r r' : Cells) → Memᴰ r l → Step t g e no_variables r r' → some_moves t g e l ≡ true
+  some-move [] r r' m s = absurd (Memᴰ.not-nil m)
+  some-move (x ∷ l) r r' m s =
+      ⊎_elim
+      (λ q. let h = has-one r' (moves t g e no_variables x) ((fits t g e no_variables).complete x r' (subst (λ (z : Cells). Step t g e no_variables z r') q s)) in rw h refl)
+      (λ k. or-right (has_one (moves t g e no_variables x)) (some_moves t g e l) (some-move l r r' k s))
+      (Memᴰ.cases_cons m)
+
+  moved-some : (l : List Cells) → some_moves t g e l ≡ true → (r : Cells) × Memᴰ r l × ((r' : Cells) × Step t g e no_variables r r')
+  moved-some [] h = absurd (true≢false (sym h))
+  moved-some (x ∷ l) h = at (has_one (moves t g e no_variables x)) refl (λ k. moved-some l k) h
+    where
+      at : (b : Bool) → has_one (moves t g e no_variables x) ≡ b → (some_moves t g e l ≡ true → (r : Cells) × Memᴰ r l × ((r' : Cells) × Step t g e no_variables r r')) → b || some_moves t g e l ≡ true → (r : Cells) × Memᴰ r (x ∷ l) × ((r' : Cells) × Step t g e no_variables r r')
+      at true is below k = let o = one-had (moves t g e no_variables x) is in (x, Memᴰ.head refl, (o.0, (fits t g e no_variables).sound x o.0 o.1))
+      at false is below k = let o = below k in (o.0, Memᴰ.tail o.1, o.2)
+
+pub menu-exact : (t : Tree) (m : Meaning) (events : List Event) (e : Event) → Sound t → InForm e → Memᴰ e (menu t m events) ↔ GoesOn t m events e
+menu-exact t m events e s f = (to, fro)
+  where
+    to : Memᴰ e (menu t m events) → GoesOn t m events e
+    to i =
+        let o = moved-some t (answers_after m events e) e (ends t m events) (out-passing _ e (candidates t no_variables) (out-arranged event_rank event_order e _ i)) in
+        (o.2.0, (o.0, (listed-ends t m events o.0).0 o.1, o.2.1))
+
+    fro : GoesOn t m events e → Memᴰ e (menu t m events)
+    fro (r', n) =
+        in-arranged event_rank event_order e _
+        (in-passing _ e (candidates t no_variables)
+        (some-move t (answers_after m events e) e (ends t m events) n.0 r' ((listed-ends t m events n.0).1 n.1) n.2)
+        (carried-listed t e no_variables s f (step-carried t (answers_after m events e) e no_variables n.0 r' n.2)))

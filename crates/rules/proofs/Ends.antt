@@ -40,7 +40,7 @@ module _ {X : Type 0} (c : X → X → Ordering) (o : Order c) where
   rising-arranged (x ∷ l) = rising-insert c o (arranged c l) x (rising-arranged l)
 
 -- lists with a last element
-last-parts : {X : Type 0} (u v : List X) (x y : X) → u ++ x ∷ [] ≡ v ++ y ∷ [] → (u ≡ v) × (x ≡ y)
+pub last-parts : {X : Type 0} (u v : List X) (x y : X) → u ++ x ∷ [] ≡ v ++ y ∷ [] → (u ≡ v) × (x ≡ y)
 last-parts [] [] x y e = (refl, cc)
 last-parts [] (b ∷ v) x y e = absurd (omega (arith, simp length-append at (ap length e)))
 last-parts (a ∷ u) [] x y e = absurd (omega (arith, simp length-append at (ap length e)))
@@ -50,7 +50,7 @@ last-parts (a ∷ u) (b ∷ v) x y e =
     let q : u ≡ v = p.0 in
     (cc, p.1)
 
-no-last : {X : Type 0} (u : List X) (x : X) → [] ≡ u ++ x ∷ [] → ⊥
+pub no-last : {X : Type 0} (u : List X) (x : X) → [] ≡ u ++ x ∷ [] → ⊥
 no-last u x e = absurd (omega (arith, simp length-append at (ap length e)))
 
 module _ (t : Tree) (m : Meaning) (start : Cells) where

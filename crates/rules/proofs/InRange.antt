@@ -45,7 +45,7 @@ value-room (y ∷ xs) zero x n e = (omega arith, omega arith)
 value-room (y ∷ xs) (suc k) x n e = let h = value-room xs k x n e in (omega (arith, h.0), omega arith)
 
 -- exactly n cells are themselves
-fit-exact : (n : ℕ) (s : Cells) → length s ≡ n → fit n s ≡ s
+pub fit-exact : (n : ℕ) (s : Cells) → length s ≡ n → fit n s ≡ s
 fit-exact zero [] l = refl
 fit-exact zero (x ∷ s) l = absurd (omega arith)
 fit-exact (suc n) [] l = absurd (omega arith)

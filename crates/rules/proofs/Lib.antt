@@ -6,3 +6,6 @@ pub mod Instances
 pub mod InRange
 pub mod Growing
 pub mod Candidates
+pub mod Points
+pub mod Joins
+pub mod Shown

@@ -9,3 +9,4 @@ pub mod Instances
 pub mod InRange
 pub mod Candidates
 pub mod Laws
+pub mod Examples

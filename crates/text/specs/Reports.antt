@@ -1,5 +1,5 @@
 -- All that the program says of a file: one line after the other, each with its end.
-use Rattle.std.specs.Prelude.{ℕ, List, [], length, Ok, Err, codes, Result}
+use Rattle.std.specs.Prelude.{ℕ, List, length, Ok, Err, codes, Result}
 use Rattle.fault.specs.declared.fault.Fault.{Fault}
 use Rattle.notation.specs.declared.node.Node.{Node}
 use Rattle.notation.specs.declared.arrow.Arrow.{Arrow}

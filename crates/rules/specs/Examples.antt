@@ -1,0 +1,238 @@
+-- Small diagrams, with the rows and menus that the rules give them. They stand here because a mistake in a rule shows in them at once.
+use Rattle.std.specs.Prelude.{◌≡◌, ℕ, cond, Bool, true, false, ◌↔◌, List, [], ◌∷◌, length, Some, None, Option, ◌==◌}
+use mathlib.Core.List.{Memᴰ}
+use Rattle.notation.specs.Parts.{blank_state}
+use Rattle.notation.specs.declared.node.Mark.TheVariants.{Unmarked, Shallow}
+use Rattle.notation.specs.declared.node.State.{State}
+use Rattle.notation.specs.declared.node.Labels.{Labels}
+use Rattle.notation.specs.declared.node.Node.{Node}
+use Rattle.notation.specs.declared.node.Node.TheVariants.{Closure, Automaton, Sequence, Guard, Choice, Synchronisation, QuantifiedChoice, QuantifiedSynchronisation}
+use Rattle.notation.specs.declared.arrow.Arrow.{Arrow}
+use Rattle.notation.specs.declared.arrow.Argument.{Argument}
+use Rattle.notation.specs.declared.arrow.Argument.TheVariants.{Absent, Outer}
+use Rattle.procedure.specs.Drawings.{Drawing}
+use Rattle.event.specs.Forms.{InForm}
+use Rattle.event.specs.declared.event.Event.{Event}
+use Rattle.host.specs.Meanings.{Meaning}
+use Rattle.host.specs.Tallying.{tallies_answer}
+use Rattle.rules.specs.Trees.{Tree}
+use Rattle.rules.specs.Cells.{Cells, finished}
+use Rattle.rules.specs.Chains.{IsEnd, GoesOn}
+use Rattle.rules.specs.Growing.{Values, tree_of}
+
+-- ---- how they are written down
+
+-- an automaton that starts in state 0
+abbrev pub states : List State → Node
+states s = Automaton (record { count = length s; start = 0; table = s })
+
+-- an elementary state without a mark
+abbrev pub plain : State
+plain = blank_state
+
+-- a final one
+abbrev pub final : State
+final = record { mark = Shallow; child = None }
+
+-- a state with a child
+abbrev pub holding : ℕ → State
+holding k = record { mark = Unmarked; child = Some k }
+
+-- an arrow of a node, from one state to another, on a label with a first argument or none
+abbrev pub arrow : ℕ → ℕ → ℕ → ℕ → Argument → Arrow
+arrow node from to label first = record { node = node; from = from; to = to; label = label; waits = false; guard = None; first = first; second = Absent }
+
+-- one that waits
+abbrev pub waiting_arrow : ℕ → ℕ → ℕ → ℕ → Arrow
+waiting_arrow node from to label = record { node = node; from = from; to = to; label = label; waits = true; guard = None; first = Absent; second = Absent }
+
+-- a set of labels
+abbrev pub set_of : List ℕ → Labels
+set_of ls = record { count = length ls; table = ls }
+
+-- an event without arguments, and one with a first argument
+abbrev pub bare : ℕ → Event
+bare label = record { label = label; count = 0; first = 0; second = 0 }
+
+abbrev pub with_one : ℕ → ℕ → Event
+with_one label x = record { label = label; count = 1; first = x; second = 0 }
+
+-- type 0 has these values, and no other type has any
+abbrev pub type_0_has : List ℕ → Values
+type_0_has xs ty = cond (ty == 0) xs []
+
+-- a host that says no to every guard
+abbrev pub silent : Meaning
+silent w guard e outer inner = false
+
+-- a host by tallies, of which guard 0 has one: fewer than one event of label 8
+abbrev pub one_of_label_8 : Meaning
+one_of_label_8 w guard e outer inner = tallies_answer (Some (record { label = 8; bound = 1; told = 0 }) ∷ []) w guard
+
+-- the ends of the chains over some events are these, and no others
+abbrev pub EndsExactly : Tree → Meaning → List Event → List Cells → Type 0
+EndsExactly t m events l = (r : Cells) → IsEnd t m events r ↔ Memᴰ r l
+
+-- the events in form with which some chain goes on are these, and no others
+abbrev pub MenuExactly : Tree → Meaning → List Event → List Event → Type 0
+MenuExactly t m events l = (e : Event) → InForm e → GoesOn t m events e ↔ Memᴰ e l
+
+-- ---- an axle is selected, measured any number of times, stored; then the next
+
+abbrev pub axle : Drawing
+axle = record {
+  nodes = states (plain ∷ plain ∷ final ∷ []) ∷ QuantifiedChoice 0 0 ∷ Closure 1 ∷ [];
+  arrows = arrow 0 0 1 2 Outer ∷ arrow 0 1 1 3 Outer ∷ arrow 0 1 2 4 Absent ∷ [];
+}
+
+abbrev pub axle_tree : Tree
+axle_tree = tree_of (type_0_has (1 ∷ 2 ∷ 3 ∷ [])) axle 2
+
+-- at first any axle can be selected, and the whole is finished
+pub record AxleBegins : Type 0 where
+  pub rows : EndsExactly axle_tree silent [] ((0 ∷ 0 ∷ 0 ∷ []) ∷ [])
+  pub done : finished axle_tree (0 ∷ 0 ∷ 0 ∷ []) ≡ true
+  pub menu : MenuExactly axle_tree silent [] (with_one 2 1 ∷ with_one 2 2 ∷ with_one 2 3 ∷ [])
+
+-- once axle 2 is selected, only that one can be measured, or stored
+pub record AxleSelected : Type 0 where
+  pub rows : EndsExactly axle_tree silent (with_one 2 2 ∷ []) ((1 ∷ 2 ∷ 1 ∷ []) ∷ [])
+  pub menu : MenuExactly axle_tree silent (with_one 2 2 ∷ []) (with_one 3 2 ∷ bare 4 ∷ [])
+  pub other : EndsExactly axle_tree silent (with_one 2 2 ∷ with_one 3 1 ∷ []) []
+
+-- stored, it is finished, and any axle can be selected again
+pub record AxleStored : Type 0 where
+  pub rows : EndsExactly axle_tree silent (with_one 2 2 ∷ bare 4 ∷ []) ((1 ∷ 2 ∷ 2 ∷ []) ∷ [])
+  pub done : finished axle_tree (1 ∷ 2 ∷ 2 ∷ []) ≡ true
+  pub menu : MenuExactly axle_tree silent (with_one 2 2 ∷ bare 4 ∷ []) (with_one 2 1 ∷ with_one 2 2 ∷ with_one 2 3 ∷ [])
+
+-- ---- two sides that do not meet, and the same two that do
+
+abbrev pub two_sides : List ℕ → Drawing
+two_sides ls = record {
+  nodes = states (plain ∷ plain ∷ []) ∷ states (plain ∷ plain ∷ []) ∷ Synchronisation 0 1 (set_of ls) ∷ [];
+  arrows = arrow 0 0 1 5 Absent ∷ arrow 1 0 1 5 Absent ∷ [];
+}
+
+-- with an empty set one side moves at a time: two readings of one event are kept
+pub record SidesApart : Type 0 where
+  pub once : EndsExactly (tree_of (type_0_has []) (two_sides []) 2) silent (bare 5 ∷ []) ((0 ∷ 1 ∷ []) ∷ (1 ∷ 0 ∷ []) ∷ [])
+  pub twice : EndsExactly (tree_of (type_0_has []) (two_sides []) 2) silent (bare 5 ∷ bare 5 ∷ []) ((1 ∷ 1 ∷ []) ∷ [])
+
+-- with the label in the set both move, once
+pub record SidesTogether : Type 0 where
+  pub once : EndsExactly (tree_of (type_0_has []) (two_sides (5 ∷ [])) 2) silent (bare 5 ∷ []) ((1 ∷ 1 ∷ []) ∷ [])
+  pub twice : EndsExactly (tree_of (type_0_has []) (two_sides (5 ∷ [])) 2) silent (bare 5 ∷ bare 5 ∷ []) []
+
+-- ---- a first part that may go on when it is finished, and a second part that takes the same event
+
+abbrev pub handing_over : Drawing
+handing_over = record {
+  nodes = states (plain ∷ final ∷ []) ∷ states (plain ∷ plain ∷ []) ∷ Sequence 0 1 ∷ [];
+  arrows = arrow 0 0 1 6 Absent ∷ arrow 0 1 1 6 Absent ∷ arrow 1 0 1 6 Absent ∷ [];
+}
+
+pub record HandingOver : Type 0 where
+  pub once : EndsExactly (tree_of (type_0_has []) handing_over 2) silent (bare 6 ∷ []) ((0 ∷ 1 ∷ []) ∷ [])
+  pub twice : EndsExactly (tree_of (type_0_has []) handing_over 2) silent (bare 6 ∷ bare 6 ∷ []) ((0 ∷ 1 ∷ []) ∷ (1 ∷ 1 ∷ []) ∷ [])
+
+-- ---- a choice between two sides that take the same event
+
+abbrev pub either_side : Drawing
+either_side = record {
+  nodes = states (plain ∷ plain ∷ []) ∷ states (plain ∷ plain ∷ []) ∷ Choice 0 1 ∷ [];
+  arrows = arrow 0 0 1 7 Absent ∷ arrow 1 0 1 7 Absent ∷ [];
+}
+
+abbrev pub EitherSide : Type 0
+EitherSide = EndsExactly (tree_of (type_0_has []) either_side 2) silent (bare 7 ∷ []) ((1 ∷ 1 ∷ []) ∷ (2 ∷ 1 ∷ []) ∷ [])
+
+-- ---- a guard that holds at the first event only, and is asked at no other
+
+abbrev pub guarded_steps : Drawing
+guarded_steps = record {
+  nodes = states (plain ∷ plain ∷ plain ∷ []) ∷ Guard 0 0 ∷ [];
+  arrows = arrow 0 0 1 8 Absent ∷ arrow 0 1 2 8 Absent ∷ [];
+}
+
+pub record GuardedSteps : Type 0 where
+  pub twice : EndsExactly (tree_of (type_0_has []) guarded_steps 1) one_of_label_8 (bare 8 ∷ bare 8 ∷ []) ((1 ∷ 2 ∷ []) ∷ [])
+  pub thrice : EndsExactly (tree_of (type_0_has []) guarded_steps 1) one_of_label_8 (bare 8 ∷ bare 8 ∷ bare 8 ∷ []) []
+
+-- the same guard over one step, started again and again: it is asked at each start
+abbrev pub guarded_again : Drawing
+guarded_again = record {
+  nodes = states (plain ∷ final ∷ []) ∷ Guard 0 0 ∷ Closure 1 ∷ [];
+  arrows = arrow 0 0 1 8 Absent ∷ [];
+}
+
+pub record GuardedAgain : Type 0 where
+  pub once : EndsExactly (tree_of (type_0_has []) guarded_again 2) one_of_label_8 (bare 8 ∷ []) ((1 ∷ 1 ∷ 1 ∷ []) ∷ [])
+  pub twice : EndsExactly (tree_of (type_0_has []) guarded_again 2) one_of_label_8 (bare 8 ∷ bare 8 ∷ []) []
+
+-- ---- two wheels, each read for itself, and then both stored at once
+
+abbrev pub wheels : Drawing
+wheels = record {
+  nodes = states (plain ∷ plain ∷ plain ∷ []) ∷ QuantifiedSynchronisation 0 0 (set_of (10 ∷ [])) ∷ [];
+  arrows = arrow 0 0 1 9 Outer ∷ arrow 0 1 2 10 Absent ∷ [];
+}
+
+abbrev pub wheels_tree : Tree
+wheels_tree = tree_of (type_0_has (1 ∷ 2 ∷ [])) wheels 1
+
+pub record Wheels : Type 0 where
+  pub none_read : EndsExactly wheels_tree silent (bare 10 ∷ []) []
+  pub one_read : EndsExactly wheels_tree silent (with_one 9 1 ∷ []) ((1 ∷ 0 ∷ []) ∷ [])
+  pub too_early : EndsExactly wheels_tree silent (with_one 9 1 ∷ bare 10 ∷ []) []
+  pub both_read : EndsExactly wheels_tree silent (with_one 9 1 ∷ with_one 9 2 ∷ []) ((1 ∷ 1 ∷ []) ∷ [])
+  pub stored : EndsExactly wheels_tree silent (with_one 9 1 ∷ with_one 9 2 ∷ bare 10 ∷ []) ((2 ∷ 2 ∷ []) ∷ [])
+
+-- ---- an arrow that waits for the child of its state, and one that waits where there is none
+
+abbrev pub waiting : Drawing
+waiting = record {
+  nodes = states (plain ∷ final ∷ []) ∷ states (holding 0 ∷ plain ∷ []) ∷ [];
+  arrows = arrow 0 0 1 11 Absent ∷ waiting_arrow 1 0 1 12 ∷ [];
+}
+
+pub record Waiting : Type 0 where
+  pub too_early : EndsExactly (tree_of (type_0_has []) waiting 1) silent (bare 12 ∷ []) []
+  pub child_moved : EndsExactly (tree_of (type_0_has []) waiting 1) silent (bare 11 ∷ []) ((0 ∷ 1 ∷ []) ∷ [])
+  pub left : EndsExactly (tree_of (type_0_has []) waiting 1) silent (bare 11 ∷ bare 12 ∷ []) ((1 ∷ 0 ∷ []) ∷ [])
+
+abbrev pub waiting_alone : Drawing
+waiting_alone = record { nodes = states (plain ∷ plain ∷ []) ∷ []; arrows = waiting_arrow 0 0 1 12 ∷ [] }
+
+abbrev pub WaitingAlone : Type 0
+WaitingAlone = EndsExactly (tree_of (type_0_has []) waiting_alone 0) silent (bare 12 ∷ []) ((1 ∷ []) ∷ [])
+
+-- ---- a sequence that is started again and again: its first part alone does not finish it
+
+abbrev pub shift : Drawing
+shift = record {
+  nodes = states (plain ∷ final ∷ []) ∷ states (plain ∷ final ∷ []) ∷ Sequence 0 1 ∷ Closure 2 ∷ [];
+  arrows = arrow 0 0 1 6 Absent ∷ arrow 1 0 1 7 Absent ∷ [];
+}
+
+abbrev pub shift_tree : Tree
+shift_tree = tree_of (type_0_has []) shift 3
+
+pub record Shift : Type 0 where
+  pub first_part : EndsExactly shift_tree silent (bare 6 ∷ []) ((1 ∷ 0 ∷ 1 ∷ []) ∷ [])
+  pub unfinished : finished shift_tree (1 ∷ 0 ∷ 1 ∷ []) ≡ false
+  pub no_restart : EndsExactly shift_tree silent (bare 6 ∷ bare 6 ∷ []) []
+  pub both_parts : EndsExactly shift_tree silent (bare 6 ∷ bare 7 ∷ []) ((1 ∷ 1 ∷ 1 ∷ []) ∷ [])
+  pub restart : EndsExactly shift_tree silent (bare 6 ∷ bare 7 ∷ bare 6 ∷ []) ((1 ∷ 0 ∷ 1 ∷ []) ∷ [])
+
+-- ---- two arrows to one state, and one event to two states
+
+abbrev pub fork : Drawing
+fork = record {
+  nodes = states (plain ∷ plain ∷ plain ∷ []) ∷ [];
+  arrows = arrow 0 0 1 5 Absent ∷ arrow 0 0 1 5 Absent ∷ arrow 0 0 1 6 Absent ∷ arrow 0 0 2 6 Absent ∷ [];
+}
+
+pub record Fork : Type 0 where
+  pub one : EndsExactly (tree_of (type_0_has []) fork 0) silent (bare 5 ∷ []) ((1 ∷ []) ∷ [])
+  pub two : EndsExactly (tree_of (type_0_has []) fork 0) silent (bare 6 ∷ []) ((1 ∷ []) ∷ (2 ∷ []) ∷ [])

@@ -1,0 +1,19 @@
+ghost use Rattle.rules.specs.Examples.{AxleBegins, AxleSelected, AxleStored, SidesApart, SidesTogether, HandingOver, EitherSide, GuardedSteps, GuardedAgain, Wheels, Waiting, WaitingAlone, Shift, Fork};
+
+/// Small diagrams have the rows and menus that are written beside them, and no others.
+pub fn examples_hold()
+    ensures an_axle_is_selected { AxleBegins }
+    ensures that_axle_is_measured { AxleSelected }
+    ensures then_the_next_axle { AxleStored }
+    ensures two_sides_move_apart { SidesApart }
+    ensures two_sides_move_together { SidesTogether }
+    ensures a_first_part_goes_on_or_hands_over { HandingOver }
+    ensures a_choice_keeps_both_sides { EitherSide }
+    ensures a_guard_is_asked_at_the_first_event { GuardedSteps }
+    ensures a_guard_is_asked_at_each_start { GuardedAgain }
+    ensures all_wheels_are_stored_at_once { Wheels }
+    ensures an_arrow_waits_for_a_child { Waiting }
+    ensures an_arrow_waits_for_no_elementary_state { WaitingAlone }
+    ensures a_sequence_restarts_after_both_parts { Shift }
+    ensures two_arrows_give_one_row_and_one_event_two { Fork }
+{}
