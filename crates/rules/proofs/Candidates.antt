@@ -1,16 +1,15 @@
 -- Every event that moves a part is carried by an arrow of it, and stands among its candidates.
-use Rattle.std.proofs.Common.{◌≡◌, refl, sym, ◌∙◌, ap, subst, ℕ, zero, suc, ◌<◌, ◌≤◌, ◌↔◌, cond, Bool, true, false, ◌||◌, true≢false, ◌⊎◌, inl, inr, ⊎_elim, List, [], ◌∷◌, ◌++◌, map, Option, Some, None, nat_le, leb-true, leb-false, arith}
-use Rattle.std.proofs.lemmas.Bool.{cases_Bool, cases_lt}
+use Rattle.std.proofs.Common.{◌≡◌, refl, sym, ◌∙◌, ap, subst, ℕ, zero, suc, ◌<◌, ◌↔◌, cond, Bool, true, false, ◌||◌, true≢false, inl, inr, ⊎_elim, List, [], ◌∷◌, map, Some, None, nat_le, leb-true, leb-false, arith}
+use Rattle.std.proofs.lemmas.Bool.{cases_lt}
 use Rattle.std.specs.List.{slice_get}
 use mathlib.Core.List.{Memᴰ}
 use mathlib.Core.List.Memᴰ
 use Rattle.event.specs.Forms.{InForm, first_argument, second_argument, event_rank}
 use Rattle.event.specs.Laws.{event_order}
 use Rattle.event.specs.declared.event.Event.{Event}
-use Rattle.notation.specs.declared.arrow.Arrow.{Arrow}
 use Rattle.host.specs.Meanings.{Meaning}
-use Rattle.rules.specs.Trees.{NumberedArrow, Tree, elementary, automaton, sequence, closure, guarded, choice, synchronisation, quantified_choice, quantified_synchronisation, Variables, no_variables, bound, Guards, argument_of}
-use Rattle.rules.specs.Cells.{Cells, cell, rest, width, part, initial, has_value, fit}
+use Rattle.rules.specs.Trees.{NumberedArrow, Tree, elementary, automaton, sequence, closure, guarded, choice, synchronisation, quantified_choice, quantified_synchronisation, Variables, no_variables, bound, Guards}
+use Rattle.rules.specs.Cells.{Cells, cell, width, has_value}
 use Rattle.rules.specs.Rules.{Motion, Carries, Step, OneMoves, AllMove}
 use Rattle.rules.specs.Rules.AutomatonRule.{aut-1, aut-6}
 use Rattle.rules.specs.Rules.SequenceRule.{seq-1, seq-2, seq-3}
@@ -22,10 +21,10 @@ use Rattle.rules.specs.Rules.QuantifiedChoiceRule.{qch-1, qch-2}
 use Rattle.rules.specs.Rules.OneMoves.{this_one, later_one}
 use Rattle.rules.specs.Rules.AllMove.{none_left, this_too}
 use Rattle.rules.specs.Rules.QuantifiedSynchronisationRule.{qsy-1, qsy-2}
-use Rattle.rules.specs.Chains.{answers_after, IsEnd, GoesOn}
+use Rattle.rules.specs.Chains.{answers_after, GoesOn}
 use Rattle.rules.specs.InRange.{Sound}
 use Rattle.rules.specs.Moves.{moves}
-use Rattle.rules.specs.Ends.{arranged, ends}
+use Rattle.rules.specs.Ends.{ends}
 use Rattle.rules.specs.Candidates.{Carried, event_with, event_of, under_each, in_each, candidates, has_one, some_moves, passing, menu}
 use Rattle.rules.proofs.Fits.{fits}
 use Rattle.rules.proofs.Ends.{in-arranged, out-arranged, listed-ends}

@@ -1,8 +1,8 @@
 -- The computed ends are those of the chains.
-use Rattle.std.proofs.Common.{◌≡◌, refl, sym, ◌∙◌, ap, subst, ℕ, List, [], ◌∷◌, ◌++◌, ◌↔◌, ◌⊎◌, inl, inr, ⊎_elim, Ordering, append_assoc, append-nil, length, length-append, arith}
+use Rattle.std.proofs.Common.{◌≡◌, refl, sym, ◌∙◌, ap, subst, List, [], ◌∷◌, ◌++◌, ◌↔◌, inl, inr, ⊎_elim, Ordering, append_assoc, append-nil, length, length-append, arith}
 use mathlib.Core.List.{Memᴰ}
 use mathlib.Core.List.Memᴰ
-use Rattle.ordered.specs.Order.{Order, Rising, insert_ordered}
+use Rattle.ordered.specs.Order.{Order, Rising}
 use Rattle.ordered.proofs.Laws.{rising-insert, in-insert, in-back}
 use Rattle.ordered.proofs.Alone.{one-rising}
 use Rattle.row.specs.Rows.{cells_rank}
@@ -12,8 +12,7 @@ use Rattle.host.specs.Meanings.{Meaning}
 use Rattle.rules.specs.Trees.{Tree, Guards, no_variables}
 use Rattle.rules.specs.Cells.{Cells, initial}
 use Rattle.rules.specs.Rules.{Step}
-use Rattle.rules.specs.Moves.{over, moves}
-use Rattle.rules.specs.Chains.{answers_after, Chain, IsEnd, IsNextEnd}
+use Rattle.rules.specs.Chains.{answers_after, Chain, IsEnd}
 use Rattle.rules.specs.Chains.Chain.{begun, goes_on}
 use Rattle.rules.specs.Ends.{arranged, successors, ends_from, ends}
 use Rattle.rules.proofs.Lists.{in-over, out-over}

@@ -1,15 +1,13 @@
 -- The moves of each operator are what its rules derive, where those of its parts are.
-use Rattle.std.proofs.Common.{◌≡◌, refl, ℕ, zero, suc, Bool, true, false, not, ◌&&◌, List, [], ◌∷◌, drop, Option, ◌==◌, eqb-true, eq-eqb, true≢false, sym, subst}
-use Rattle.std.specs.List.{slice_get}
+use Rattle.std.proofs.Common.{◌≡◌, refl, ℕ, Bool, true, false, not, List, [], ◌∷◌, eqb-true, eq-eqb, true≢false, sym, subst}
 use Rattle.std.proofs.lemmas.Bool.{and_parts, and_from}
 use mathlib.Core.List.{Memᴰ}
 use mathlib.Core.List.Memᴰ
 use Rattle.notation.specs.declared.arrow.Arrow.{Arrow}
-use Rattle.event.specs.Forms.{first_argument, second_argument}
 use Rattle.event.specs.declared.event.Event.{Event}
-use Rattle.rules.specs.Trees.{NumberedArrow, Tree, elementary, automaton, sequence, closure, guarded, choice, synchronisation, quantified_choice, quantified_synchronisation, Variables, bound, Guards, answer, guard_holds, argument_of}
-use Rattle.rules.specs.Cells.{Cells, cell, rest, fit, width, shared_room, body_room, has_value, part, in_state, tagged, initial, finished, may_leave}
-use Rattle.rules.specs.Rules.{Motion, in_set, Carries, Leads, AutomatonRule, SequenceRule, ClosureRule, GuardRule, ChoiceRule, SynchronisationRule, QuantifiedChoiceRule, OneMoves, AllMove, QuantifiedSynchronisationRule, Step}
+use Rattle.rules.specs.Trees.{NumberedArrow, Tree, elementary, automaton, sequence, closure, guarded, choice, synchronisation, quantified_choice, quantified_synchronisation, Variables, bound, Guards, answer}
+use Rattle.rules.specs.Cells.{Cells, cell, width}
+use Rattle.rules.specs.Rules.{Motion, in_set, Leads, AutomatonRule, SequenceRule, ClosureRule, GuardRule, ChoiceRule, SynchronisationRule, QuantifiedChoiceRule, OneMoves, AllMove, QuantifiedSynchronisationRule, Step}
 use Rattle.rules.specs.Rules.AutomatonRule.{aut-1, aut-6}
 use Rattle.rules.specs.Rules.SequenceRule.{seq-1, seq-2, seq-3}
 use Rattle.rules.specs.Rules.ClosureRule.{clo-1, clo-2}
@@ -20,7 +18,7 @@ use Rattle.rules.specs.Rules.QuantifiedChoiceRule.{qch-1, qch-2}
 use Rattle.rules.specs.Rules.OneMoves.{this_one, later_one}
 use Rattle.rules.specs.Rules.AllMove.{none_left, this_too}
 use Rattle.rules.specs.Rules.QuantifiedSynchronisationRule.{qsy-1, qsy-2}
-use Rattle.rules.specs.Moves.{Moves, placed, over, for_each, past_zero, if_some, targets, same_argument, carries, leads, automaton_moves, sequence_moves, closure_moves, guard_moves, choice_moves, synchronisation_moves, quantified_choice_moves, one_moves, all_move, quantified_synchronisation_moves, moves}
+use Rattle.rules.specs.Moves.{Moves, carries, leads, automaton_moves, sequence_moves, closure_moves, guard_moves, choice_moves, synchronisation_moves, quantified_choice_moves, one_moves, all_move, quantified_synchronisation_moves, moves}
 use Rattle.rules.proofs.Lists.{split, in-left, in-right, in-placed, out-placed, in-over, out-over, in-each, out-each, in-past, out-past, in-some, out-some, in-targets, out-targets, same-equal, equal-same}
 
 -- a list of moves fits a motion: it holds what the motion allows, and nothing else

@@ -1,7 +1,7 @@
 -- A node's tree is made of its children's trees, and it is sound.
-use Rattle.std.proofs.Common.{◌≡◌, refl, sym, ◌∙◌, ap, ap₂, subst, ℕ, zero, suc, ◌+◌, ◌<◌, ◌≤◌, cond, Bool, true, false, ◌&&◌, not, List, [], ◌∷◌, ◌++◌, take, length, Option, Some, None, ⊎_elim, ◌⊎◌, inl, inr, ◌==◌, nat_lt, slice_index_or, not-suc-le-zero, add-zero, length-take-le, get_or-take, true≢false, eqb-true, ltb-true, arith}
-use Rattle.std.proofs.lemmas.Bool.{and_parts, cases_Bool, cases_lt}
-use Rattle.std.proofs.lemmas.Option.{get_or_from_slice_get, slice_get-get_or}
+use Rattle.std.proofs.Common.{◌≡◌, refl, sym, ◌∙◌, ap, ap₂, subst, ℕ, zero, suc, ◌+◌, ◌<◌, ◌≤◌, cond, Bool, true, false, ◌&&◌, List, [], ◌∷◌, ◌++◌, take, length, Option, Some, None, ⊎_elim, ◌==◌, nat_lt, slice_index_or, not-suc-le-zero, add-zero, length-take-le, get_or-take, eqb-true, ltb-true, arith}
+use Rattle.std.proofs.lemmas.Bool.{and_parts}
+use Rattle.std.proofs.lemmas.Option.{get_or_from_slice_get}
 use Rattle.std.specs.List.{slice_get}
 use Rattle.std.specs.Option.{option_to_list}
 use mathlib.Core.Path.{fun_ext}
@@ -13,11 +13,10 @@ use Rattle.notation.specs.declared.node.States.{States}
 use Rattle.notation.specs.declared.node.Node.{Node}
 use Rattle.notation.specs.declared.node.Node.TheVariants.{Closure, Automaton, Sequence, Guard, Choice, Synchronisation, QuantifiedChoice, QuantifiedSynchronisation}
 use Rattle.notation.specs.declared.arrow.Arrow.{Arrow}
-use Rattle.record.specs.Ranges.{all_below}
 use Rattle.record.proofs.Below.{all-at}
 use Rattle.procedure.specs.Drawings.{Drawing}
-use Rattle.procedure.specs.Scopes.{among, parent_of, children_free, arrow_placed}
-use Rattle.procedure.specs.Sound.{node_sound, states_sound, nodes_sound, arrow_sound, arrows_sound, whole_sound, sound}
+use Rattle.procedure.specs.Scopes.{children_free, arrow_placed}
+use Rattle.procedure.specs.Sound.{node_sound, nodes_sound, arrow_sound, arrows_sound, sound}
 use Rattle.rules.specs.Trees.{NumberedArrow, Tree, elementary, automaton, sequence, closure, guarded, choice, synchronisation, quantified_choice, quantified_synchronisation}
 use Rattle.rules.specs.InRange.{Sound}
 use Rattle.rules.specs.Growing.{Values, state_of, labels_of, arrows_of, child_tree, node_tree, node_tree_if, tree_within, tree_of}

@@ -1,13 +1,12 @@
 -- Cells in range stay in range.
-use Rattle.std.proofs.Common.{◌≡◌, refl, sym, ◌∙◌, ap, subst, ℕ, zero, suc, ◌+◌, ◌<◌, ◌≤◌, max, List, [], ◌∷◌, ◌++◌, length, drop, Option, Some, None, length-append, length-drop, lt_of_lt_of_le, le_refl, arith}
+use Rattle.std.proofs.Common.{◌≡◌, refl, sym, ◌∙◌, ap, subst, ℕ, zero, suc, ◌<◌, ◌≤◌, List, [], ◌∷◌, ◌++◌, length, drop, Some, le_refl, arith}
 use Rattle.std.specs.List.{slice_get}
-use mathlib.Core.List.{Memᴰ}
 use mathlib.Core.Logic.{⊎_elim}
 use Rattle.std.proofs.lemmas.Bool.{cases_lt}
 use Rattle.notation.specs.declared.node.Mark.{Mark}
 use Rattle.event.specs.declared.event.Event.{Event}
 use Rattle.rules.specs.Trees.{NumberedArrow, Tree, elementary, automaton, sequence, closure, guarded, choice, synchronisation, quantified_choice, quantified_synchronisation, Variables, bound, Guards}
-use Rattle.rules.specs.Cells.{Cells, cell, rest, fit, most, times, copies, if_values, width, child_room, shared_room, body_room, in_state, tagged, part, initial}
+use Rattle.rules.specs.Cells.{Cells, cell, rest, fit, most, copies, if_values, width, child_room, shared_room, body_room, in_state, part, initial}
 use Rattle.rules.specs.Rules.{Motion, Step, OneMoves, AllMove}
 use Rattle.rules.specs.Rules.AutomatonRule.{aut-1, aut-6}
 use Rattle.rules.specs.Rules.SequenceRule.{seq-1, seq-2, seq-3}

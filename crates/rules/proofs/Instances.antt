@@ -1,14 +1,11 @@
 -- The instances of a quantified synchronisation, position by position.
-use Rattle.std.proofs.Common.{◌≡◌, refl, sym, ◌∙◌, ap, subst, ℕ, zero, suc, ◌+◌, ◌<◌, ◌≤◌, ◌≢◌, ◌↔◌, Bool, true, false, true≢false, List, [], ◌∷◌, ◌++◌, length, drop, slice_index, length-append, length-drop, le_of_suc-le-suc, not-suc-le-zero, arith}
-use Rattle.event.specs.declared.event.Event.{Event}
-use Rattle.rules.specs.Trees.{Tree, Variables, bound, Guards, quantified_synchronisation}
-use Rattle.rules.specs.Cells.{Cells, cell, rest, fit, times, width, has_value}
-use Rattle.rules.specs.Rules.{Motion, in_set, Step, OneMoves, AllMove}
+use Rattle.std.proofs.Common.{◌≡◌, refl, sym, ◌∙◌, ap, ℕ, zero, suc, ◌<◌, ◌≤◌, ◌≢◌, List, [], ◌∷◌, ◌++◌, length, drop, slice_index, length-append, length-drop, le_of_suc-le-suc, not-suc-le-zero, arith}
+use Rattle.rules.specs.Cells.{Cells, fit, times}
+use Rattle.rules.specs.Rules.{Motion, OneMoves, AllMove}
 use Rattle.rules.specs.Rules.OneMoves.{this_one, later_one}
 use Rattle.rules.specs.Rules.AllMove.{none_left, this_too}
-use Rattle.rules.specs.Rules.QuantifiedSynchronisationRule.{qsy-1, qsy-2}
 use Rattle.rules.specs.Instances.{instance_at, EveryInstanceMoves, OneInstanceMoves}
-use Rattle.rules.proofs.Widths.{length-fit, Keeps, one-keeps, all-keep, step-width}
+use Rattle.rules.proofs.Widths.{length-fit, Keeps, one-keeps}
 
 pub fit-append : (n : ℕ) (s q : Cells) → length s ≡ n → fit n (s ++ q) ≡ s
 fit-append zero [] q e = refl

@@ -1,13 +1,13 @@
 -- Chains over two lists of events, and what holds of every end.
-use Rattle.std.proofs.Common.{◌≡◌, refl, sym, ◌∙◌, ap, subst, ℕ, ◌↔◌, List, [], ◌∷◌, ◌++◌, ◌⊎◌, inl, inr, length, append_assoc, append-nil}
+use Rattle.std.proofs.Common.{◌≡◌, refl, sym, ◌∙◌, ap, subst, List, [], ◌∷◌, ◌++◌, ◌⊎◌, inl, inr, length, append_assoc, append-nil}
 use Rattle.event.specs.declared.event.Event.{Event}
 use Rattle.host.specs.Meanings.{Meaning}
 use Rattle.rules.specs.Trees.{Tree, no_variables}
-use Rattle.rules.specs.Cells.{Cells, width, initial}
+use Rattle.rules.specs.Cells.{Cells}
 use Rattle.rules.specs.Rules.{Step}
 use Rattle.rules.specs.Chains.{answers_after, Chain}
 use Rattle.rules.specs.Chains.Chain.{begun, goes_on}
-use Rattle.rules.specs.InRange.{InRange, Sound}
+use Rattle.rules.specs.InRange.{InRange}
 use Rattle.rules.specs.Laws.{meaning_after, ChainsBegin, ChainsGoOn, ChainsJoin, EndHasWidth, EndInRange}
 use Rattle.rules.proofs.Ends.{last-parts, no-last, chain-last, chain-more, chain-none}
 use Rattle.rules.proofs.Widths.{initial-width, step-width}

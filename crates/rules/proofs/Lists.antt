@@ -1,5 +1,5 @@
 -- What is a member of each list that the moves are made of.
-use Rattle.std.proofs.Common.{◌≡◌, refl, sym, ◌∙◌, ap, subst, ℕ, zero, suc, Bool, true, false, true≢false, List, [], ◌∷◌, ◌++◌, map, Option, Some, None, ◌⊎◌, ⊎_elim, eqb-true, eq-eqb, arith}
+use Rattle.std.proofs.Common.{◌≡◌, refl, sym, ◌∙◌, ap, subst, ℕ, zero, suc, Bool, true, false, true≢false, List, [], ◌∷◌, Option, Some, None, ⊎_elim, eqb-true, eq-eqb, arith}
 use Rattle.std.specs.List.{slice_get}
 use mathlib.Core.List.{Memᴰ}
 use mathlib.Core.List.Memᴰ

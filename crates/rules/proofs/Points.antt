@@ -1,17 +1,16 @@
 -- Sides of a synchronisation, and the points where readings go astray.
-use Rattle.std.proofs.Common.{◌≡◌, refl, sym, ◌∙◌, ap, subst, ℕ, zero, suc, ◌+◌, ◌↔◌, Bool, true, false, ◌&&◌, ◌||◌, true≢false, ◌⊎◌, inl, inr, List, [], ◌∷◌, ◌++◌, length, drop, length-append, length-drop, arith}
+use Rattle.std.proofs.Common.{◌≡◌, refl, sym, ◌∙◌, ap, subst, ℕ, zero, suc, ◌+◌, Bool, true, false, ◌&&◌, ◌||◌, true≢false, ◌⊎◌, inl, inr, List, [], ◌∷◌, ◌++◌, length, drop, length-append, length-drop, le_of_suc-le-suc, not-suc-le-zero, ◌<◌, arith}
 use Rattle.std.proofs.lemmas.Bool.{and_parts, and_from}
-use Rattle.event.specs.declared.event.Event.{Event}
-use Rattle.rules.specs.Trees.{Tree, elementary, sequence, closure, guarded, choice, synchronisation, quantified_choice, quantified_synchronisation, Variables, bound, Guards}
-use Rattle.rules.specs.Cells.{Cells, cell, rest, fit, times, width, has_value, part, tagged, initial, finished, may_leave, by_tag, by_side}
-use Rattle.rules.specs.Rules.{Motion, in_set, Step, OneMoves}
+use Rattle.rules.specs.Trees.{Tree, sequence, closure, guarded, choice, synchronisation, quantified_choice, quantified_synchronisation, bound}
+use Rattle.rules.specs.Cells.{Cells, cell, rest, fit, width, has_value, part, tagged, initial, finished, by_tag, by_side, all_instances}
+use Rattle.rules.specs.Rules.{Motion, Step, OneMoves}
 use Rattle.rules.specs.Rules.ClosureRule.{clo-1, clo-2}
 use Rattle.rules.specs.Rules.GuardRule.{gua-1, gua-2}
 use Rattle.rules.specs.Rules.SynchronisationRule.{syn-1, syn-2, syn-3}
 use Rattle.rules.specs.Rules.OneMoves.{this_one, later_one}
 use Rattle.rules.specs.Rules.QuantifiedSynchronisationRule.{qsy-1, qsy-2}
-use Rattle.rules.specs.Instances.{EveryInstanceMoves, OneInstanceMoves}
-use Rattle.rules.specs.Laws.{BothSidesMove, OneSideMoves, AllInstancesMove, OneInstanceMovesAlone, NoInstanceNoMove, SequenceFinished, GuardAskedOnce, GuardFinished, ClosureStarts, ClosureRestartsOnlyFinished, FinishedClosureRestarts, ElementaryIsNotWaitedFor, ChoiceFinished, QuantifiedChoiceFinished}
+use Rattle.rules.specs.Instances.{instance_at, EveryInstanceMoves, OneInstanceMoves}
+use Rattle.rules.specs.Laws.{BothSidesMove, OneSideMoves, AllInstancesMove, OneInstanceMovesAlone, NoInstanceNoMove, BothSidesFinish, EveryInstanceFinishes, SequenceFinished, GuardAskedOnce, GuardFinished, ClosureStarts, ClosureRestartsOnlyFinished, FinishedClosureRestarts, ElementaryIsNotWaitedFor, ChoiceFinished, QuantifiedChoiceFinished}
 use Rattle.rules.proofs.Widths.{length-fit, step-width}
 use Rattle.rules.proofs.Instances.{fit-append, drop-append, fit-drop, every-out, every-in, one-out, one-in}
 use Rattle.rules.proofs.InRange.{fit-exact}
@@ -102,6 +101,21 @@ none-moves n B xs r r' e (later_one q' h q) = absurd (omega (arith, ap length e)
 pub no-instance-no-move : NoInstanceNoMove
 no-instance-no-move labels b g e v r r' (qsy-1 d h) = none-moves (width b) (λ x. Step b g e (bound x v)) [] r r' refl h
 no-instance-no-move labels b g e v r r' (qsy-2 d y h) = true≢false (sym y)
+
+pub both-sides-finish : BothSidesFinish
+both-sides-finish labels a b r = (λ h. and_parts _ _ h, λ h. and_from _ _ h.0 h.1)
+
+all-at-each : (test : Cells → Bool) (n : ℕ) (xs : List ℕ) (r : Cells) → all_instances test n xs r ≡ true → (i : ℕ) → i < length xs → test (instance_at n i r) ≡ true
+all-at-each test n [] r h i u = absurd (not-suc-le-zero u)
+all-at-each test n (x ∷ xs) r h zero u = (and_parts _ _ h).0
+all-at-each test n (x ∷ xs) r h (suc i) u = all-at-each test n xs (drop n r) (and_parts _ _ h).1 i (le_of_suc-le-suc u)
+
+each-at-all : (test : Cells → Bool) (n : ℕ) (xs : List ℕ) (r : Cells) → ((i : ℕ) → i < length xs → test (instance_at n i r) ≡ true) → all_instances test n xs r ≡ true
+each-at-all test n [] r h = refl
+each-at-all test n (x ∷ xs) r h = and_from _ _ (h 0 (omega arith)) (each-at-all test n xs (drop n r) (λ i u. h (suc i) (omega arith)))
+
+pub every-instance-finishes : EveryInstanceFinishes
+every-instance-finishes xs labels b r = (all-at-each (λ s. finished b s) (width b) xs r, each-at-all (λ s. finished b s) (width b) xs r)
 
 pub sequence-finished : SequenceFinished
 sequence-finished a b r c = (λ h. and_parts _ _ (sym by ∙ h), λ h. by ∙ and_from _ _ h.0 h.1)

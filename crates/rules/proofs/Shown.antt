@@ -1,5 +1,5 @@
 -- Rows and menus of a diagram from the computed ones.
-use Rattle.std.proofs.Common.{◌≡◌, sym, subst, ℕ, true, List, [], ◌∷◌, length}
+use Rattle.std.proofs.Common.{◌≡◌, sym, subst, ℕ, true, List}
 use mathlib.Core.List.{Memᴰ}
 use Rattle.event.specs.declared.event.Event.{Event}
 use Rattle.host.specs.Meanings.{Meaning}

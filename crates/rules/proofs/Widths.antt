@@ -1,8 +1,8 @@
 -- A part keeps its width.
-use Rattle.std.proofs.Common.{◌≡◌, refl, sym, ◌∙◌, ap, subst, ℕ, zero, suc, ◌+◌, ◌≤◌, max, List, [], ◌∷◌, ◌++◌, length, drop, length-append, length-drop, arith}
+use Rattle.std.proofs.Common.{◌≡◌, refl, ◌∙◌, ap, ℕ, zero, suc, ◌+◌, List, [], ◌∷◌, ◌++◌, length, drop, length-append, length-drop, arith}
 use Rattle.event.specs.declared.event.Event.{Event}
 use Rattle.rules.specs.Trees.{Tree, elementary, automaton, sequence, closure, guarded, choice, synchronisation, quantified_choice, quantified_synchronisation, Variables, bound, Guards}
-use Rattle.rules.specs.Cells.{Cells, cell, rest, fit, most, times, copies, width, tagged, part, initial}
+use Rattle.rules.specs.Cells.{Cells, rest, fit, times, copies, width, initial}
 use Rattle.rules.specs.Rules.{Motion, Step, OneMoves, AllMove}
 use Rattle.rules.specs.Rules.AutomatonRule.{aut-1, aut-6}
 use Rattle.rules.specs.Rules.SequenceRule.{seq-1, seq-2, seq-3}

@@ -1,7 +1,6 @@
 -- The events that an arrow of a diagram can carry, so that a menu can be complete; and the menu, computed.
 use Rattle.std.specs.Prelude.{ℕ, zero, suc, Bool, true, false, cond, ◌||◌, ◌⊎◌, List, [], ◌∷◌, ◌++◌, map, Option, Some, None}
 use mathlib.Core.List.{Memᴰ}
-use Rattle.ordered.specs.Order.{insert_ordered}
 use Rattle.event.specs.Forms.{event_rank}
 use Rattle.event.specs.declared.event.Event.{Event}
 use Rattle.host.specs.Meanings.{Meaning}

@@ -1,15 +1,15 @@
 -- Small diagrams, with the rows and menus that the rules give them. They stand here because a mistake in a rule shows in them at once.
-use Rattle.std.specs.Prelude.{◌≡◌, ℕ, cond, Bool, true, false, ◌↔◌, List, [], ◌∷◌, length, Some, None, Option, ◌==◌}
+use Rattle.std.specs.Prelude.{◌≡◌, ℕ, cond, true, false, ◌↔◌, List, [], ◌∷◌, length, Some, None, ◌==◌}
 use mathlib.Core.List.{Memᴰ}
 use Rattle.notation.specs.Parts.{blank_state}
-use Rattle.notation.specs.declared.node.Mark.TheVariants.{Unmarked, Shallow}
+use Rattle.notation.specs.declared.node.Mark.TheVariants.{Shallow, Deep}
 use Rattle.notation.specs.declared.node.State.{State}
 use Rattle.notation.specs.declared.node.Labels.{Labels}
 use Rattle.notation.specs.declared.node.Node.{Node}
 use Rattle.notation.specs.declared.node.Node.TheVariants.{Closure, Automaton, Sequence, Guard, Choice, Synchronisation, QuantifiedChoice, QuantifiedSynchronisation}
 use Rattle.notation.specs.declared.arrow.Arrow.{Arrow}
 use Rattle.notation.specs.declared.arrow.Argument.{Argument}
-use Rattle.notation.specs.declared.arrow.Argument.TheVariants.{Absent, Outer}
+use Rattle.notation.specs.declared.arrow.Argument.TheVariants.{Absent, Outer, Inner}
 use Rattle.procedure.specs.Drawings.{Drawing}
 use Rattle.event.specs.Forms.{InForm}
 use Rattle.event.specs.declared.event.Event.{Event}
@@ -22,9 +22,13 @@ use Rattle.rules.specs.Growing.{Values, tree_of}
 
 -- ---- how they are written down
 
--- an automaton that starts in state 0
+-- an automaton that starts in a state
+abbrev pub starting_in : ℕ → List State → Node
+starting_in q s = Automaton (record { count = length s; start = q; table = s })
+
+-- one that starts in state 0
 abbrev pub states : List State → Node
-states s = Automaton (record { count = length s; start = 0; table = s })
+states s = starting_in 0 s
 
 -- an elementary state without a mark
 abbrev pub plain : State
@@ -34,9 +38,9 @@ plain = blank_state
 abbrev pub final : State
 final = record { mark = Shallow; child = None }
 
--- a state with a child
+-- a state with a child, final when the child is finished
 abbrev pub holding : ℕ → State
-holding k = record { mark = Unmarked; child = Some k }
+holding k = record { mark = Deep; child = Some k }
 
 -- an arrow of a node, from one state to another, on a label with a first argument or none
 abbrev pub arrow : ℕ → ℕ → ℕ → ℕ → Argument → Arrow
@@ -46,16 +50,23 @@ arrow node from to label first = record { node = node; from = from; to = to; lab
 abbrev pub waiting_arrow : ℕ → ℕ → ℕ → ℕ → Arrow
 waiting_arrow node from to label = record { node = node; from = from; to = to; label = label; waits = true; guard = None; first = Absent; second = Absent }
 
+-- one with two arguments
+abbrev pub arrow_of_two : ℕ → ℕ → ℕ → ℕ → Argument → Argument → Arrow
+arrow_of_two node from to label first second = record { node = node; from = from; to = to; label = label; waits = false; guard = None; first = first; second = second }
+
 -- a set of labels
 abbrev pub set_of : List ℕ → Labels
 set_of ls = record { count = length ls; table = ls }
 
--- an event without arguments, and one with a first argument
+-- an event without arguments, with one, and with two
 abbrev pub bare : ℕ → Event
 bare label = record { label = label; count = 0; first = 0; second = 0 }
 
 abbrev pub with_one : ℕ → ℕ → Event
 with_one label x = record { label = label; count = 1; first = x; second = 0 }
+
+abbrev pub with_two : ℕ → ℕ → ℕ → Event
+with_two label x y = record { label = label; count = 2; first = x; second = y }
 
 -- type 0 has these values, and no other type has any
 abbrev pub type_0_has : List ℕ → Values
@@ -97,6 +108,7 @@ pub record AxleBegins : Type 0 where
 -- once axle 2 is selected, only that one can be measured, or stored
 pub record AxleSelected : Type 0 where
   pub rows : EndsExactly axle_tree silent (with_one 2 2 ∷ []) ((1 ∷ 2 ∷ 1 ∷ []) ∷ [])
+  pub unfinished : finished axle_tree (1 ∷ 2 ∷ 1 ∷ []) ≡ false
   pub menu : MenuExactly axle_tree silent (with_one 2 2 ∷ []) (with_one 3 2 ∷ bare 4 ∷ [])
   pub other : EndsExactly axle_tree silent (with_one 2 2 ∷ with_one 3 1 ∷ []) []
 
@@ -136,16 +148,23 @@ pub record HandingOver : Type 0 where
   pub once : EndsExactly (tree_of (type_0_has []) handing_over 2) silent (bare 6 ∷ []) ((0 ∷ 1 ∷ []) ∷ [])
   pub twice : EndsExactly (tree_of (type_0_has []) handing_over 2) silent (bare 6 ∷ bare 6 ∷ []) ((0 ∷ 1 ∷ []) ∷ (1 ∷ 1 ∷ []) ∷ [])
 
--- ---- a choice between two sides that take the same event
+-- ---- a choice between two sides that take the same event; only the right one is final afterwards
 
 abbrev pub either_side : Drawing
 either_side = record {
-  nodes = states (plain ∷ plain ∷ []) ∷ states (plain ∷ plain ∷ []) ∷ Choice 0 1 ∷ [];
+  nodes = states (plain ∷ plain ∷ []) ∷ states (plain ∷ final ∷ []) ∷ Choice 0 1 ∷ [];
   arrows = arrow 0 0 1 7 Absent ∷ arrow 1 0 1 7 Absent ∷ [];
 }
 
-abbrev pub EitherSide : Type 0
-EitherSide = EndsExactly (tree_of (type_0_has []) either_side 2) silent (bare 7 ∷ []) ((1 ∷ 1 ∷ []) ∷ (2 ∷ 1 ∷ []) ∷ [])
+abbrev pub either_tree : Tree
+either_tree = tree_of (type_0_has []) either_side 2
+
+pub record EitherSide : Type 0 where
+  pub begins : EndsExactly either_tree silent [] ((0 ∷ 0 ∷ []) ∷ [])
+  pub unbegun : finished either_tree (0 ∷ 0 ∷ []) ≡ false
+  pub once : EndsExactly either_tree silent (bare 7 ∷ []) ((1 ∷ 1 ∷ []) ∷ (2 ∷ 1 ∷ []) ∷ [])
+  pub left : finished either_tree (1 ∷ 1 ∷ []) ≡ false
+  pub right : finished either_tree (2 ∷ 1 ∷ []) ≡ true
 
 -- ---- a guard that holds at the first event only, and is asked at no other
 
@@ -168,6 +187,7 @@ guarded_again = record {
 
 pub record GuardedAgain : Type 0 where
   pub once : EndsExactly (tree_of (type_0_has []) guarded_again 2) one_of_label_8 (bare 8 ∷ []) ((1 ∷ 1 ∷ 1 ∷ []) ∷ [])
+  pub done : finished (tree_of (type_0_has []) guarded_again 2) (1 ∷ 1 ∷ 1 ∷ []) ≡ true
   pub twice : EndsExactly (tree_of (type_0_has []) guarded_again 2) one_of_label_8 (bare 8 ∷ bare 8 ∷ []) []
 
 -- ---- two wheels, each read for itself, and then both stored at once
@@ -196,10 +216,15 @@ waiting = record {
   arrows = arrow 0 0 1 11 Absent ∷ waiting_arrow 1 0 1 12 ∷ [];
 }
 
+abbrev pub waiting_tree : Tree
+waiting_tree = tree_of (type_0_has []) waiting 1
+
 pub record Waiting : Type 0 where
-  pub too_early : EndsExactly (tree_of (type_0_has []) waiting 1) silent (bare 12 ∷ []) []
-  pub child_moved : EndsExactly (tree_of (type_0_has []) waiting 1) silent (bare 11 ∷ []) ((0 ∷ 1 ∷ []) ∷ [])
-  pub left : EndsExactly (tree_of (type_0_has []) waiting 1) silent (bare 11 ∷ bare 12 ∷ []) ((1 ∷ 0 ∷ []) ∷ [])
+  pub too_early : EndsExactly waiting_tree silent (bare 12 ∷ []) []
+  pub unfinished : finished waiting_tree (0 ∷ 0 ∷ []) ≡ false
+  pub child_moved : EndsExactly waiting_tree silent (bare 11 ∷ []) ((0 ∷ 1 ∷ []) ∷ [])
+  pub done : finished waiting_tree (0 ∷ 1 ∷ []) ≡ true
+  pub left : EndsExactly waiting_tree silent (bare 11 ∷ bare 12 ∷ []) ((1 ∷ 0 ∷ []) ∷ [])
 
 abbrev pub waiting_alone : Drawing
 waiting_alone = record { nodes = states (plain ∷ plain ∷ []) ∷ []; arrows = waiting_arrow 0 0 1 12 ∷ [] }
@@ -229,10 +254,31 @@ pub record Shift : Type 0 where
 
 abbrev pub fork : Drawing
 fork = record {
-  nodes = states (plain ∷ plain ∷ plain ∷ []) ∷ [];
-  arrows = arrow 0 0 1 5 Absent ∷ arrow 0 0 1 5 Absent ∷ arrow 0 0 1 6 Absent ∷ arrow 0 0 2 6 Absent ∷ [];
+  nodes = starting_in 1 (plain ∷ plain ∷ plain ∷ []) ∷ [];
+  arrows = arrow 0 1 0 5 Absent ∷ arrow 0 1 0 5 Absent ∷ arrow 0 1 2 6 Absent ∷ arrow 0 1 0 6 Absent ∷ [];
 }
 
+abbrev pub fork_tree : Tree
+fork_tree = tree_of (type_0_has []) fork 0
+
 pub record Fork : Type 0 where
-  pub one : EndsExactly (tree_of (type_0_has []) fork 0) silent (bare 5 ∷ []) ((1 ∷ []) ∷ [])
-  pub two : EndsExactly (tree_of (type_0_has []) fork 0) silent (bare 6 ∷ []) ((1 ∷ []) ∷ (2 ∷ []) ∷ [])
+  pub begins : EndsExactly fork_tree silent [] ((1 ∷ []) ∷ [])
+  pub one : EndsExactly fork_tree silent (bare 5 ∷ []) ((0 ∷ []) ∷ [])
+  pub two : EndsExactly fork_tree silent (bare 6 ∷ []) ((0 ∷ []) ∷ (2 ∷ []) ∷ [])
+
+-- ---- two nested choices of a value: the outer one gives the outer variable, the inner one the inner
+
+abbrev pub nested : Drawing
+nested = record {
+  nodes = states (plain ∷ plain ∷ []) ∷ QuantifiedChoice 0 0 ∷ QuantifiedChoice 0 1 ∷ [];
+  arrows = arrow_of_two 0 0 1 5 Outer Inner ∷ [];
+}
+
+abbrev pub nested_tree : Tree
+nested_tree = tree_of (type_0_has (7 ∷ 9 ∷ [])) nested 2
+
+pub record Nested : Type 0 where
+  pub begins : EndsExactly nested_tree silent [] ((0 ∷ 0 ∷ 0 ∷ []) ∷ [])
+  pub chosen : EndsExactly nested_tree silent (with_two 5 9 7 ∷ []) ((2 ∷ 1 ∷ 1 ∷ []) ∷ [])
+  pub twice : EndsExactly nested_tree silent (with_two 5 7 7 ∷ []) ((1 ∷ 1 ∷ 1 ∷ []) ∷ [])
+  pub too_few : EndsExactly nested_tree silent (with_one 5 9 ∷ []) []

@@ -1,5 +1,5 @@
 -- The tree that a node of a procedure stands for.
-use Rattle.std.specs.Prelude.{◌≡◌, ℕ, zero, suc, cond, List, [], ◌∷◌, take, Option, Some, None, ◌==◌, nat_lt, slice_index_or}
+use Rattle.std.specs.Prelude.{ℕ, zero, suc, cond, List, [], ◌∷◌, take, Option, Some, None, ◌==◌, nat_lt, slice_index_or}
 use Rattle.std.specs.List.{slice_get}
 use Rattle.notation.specs.Parts.{blank_state}
 use Rattle.notation.specs.declared.node.State.{State}

@@ -1,5 +1,5 @@
 -- The theorems about the rules. Each is a statement that a public function of this crate carries.
-use Rattle.std.specs.Prelude.{◌≡◌, ℕ, ◌+◌, ◌<◌, Bool, true, false, ◌⊎◌, ◌↔◌, List, [], ◌∷◌, ◌++◌, length, drop, Option, Some}
+use Rattle.std.specs.Prelude.{◌≡◌, ℕ, ◌+◌, ◌<◌, Bool, true, false, ◌⊎◌, ◌↔◌, List, [], ◌∷◌, ◌++◌, length, drop, Some}
 use Rattle.std.specs.List.{slice_get}
 use mathlib.Core.List.{Memᴰ}
 use Rattle.ordered.specs.Order.{Rising}
@@ -18,7 +18,7 @@ use Rattle.rules.specs.Chains.{answers_after, Chain, IsEnd, GoesOn}
 use Rattle.rules.specs.Growing.{Values, arrows_of, node_tree, tree_of}
 use Rattle.rules.specs.Moves.{moves}
 use Rattle.rules.specs.Ends.{ends}
-use Rattle.rules.specs.Instances.{EveryInstanceMoves, OneInstanceMoves}
+use Rattle.rules.specs.Instances.{instance_at, EveryInstanceMoves, OneInstanceMoves}
 use Rattle.rules.specs.InRange.{InRange, Sound}
 use Rattle.rules.specs.Candidates.{Carried, candidates, menu}
 
@@ -136,6 +136,18 @@ OneInstanceMovesAlone =
 -- without a value nothing moves
 abbrev pub NoInstanceNoMove : Type 0
 NoInstanceNoMove = (labels : List ℕ) (b : Tree) (g : Guards) (e : Event) (v : Variables) (r r' : Cells) → Step (quantified_synchronisation [] labels b) g e v r r' → ⊥
+
+-- a synchronisation is finished exactly when both sides are
+abbrev pub BothSidesFinish : Type 0
+BothSidesFinish =
+    (labels : List ℕ) (a b : Tree) (r : Cells)
+    → (finished (synchronisation labels a b) r ≡ true) ↔ ((finished a (part a r) ≡ true) × (finished b (part b (drop (width a) r)) ≡ true))
+
+-- a quantified synchronisation is finished exactly when the instance at every position is
+abbrev pub EveryInstanceFinishes : Type 0
+EveryInstanceFinishes =
+    (xs labels : List ℕ) (b : Tree) (r : Cells)
+    → (finished (quantified_synchronisation xs labels b) r ≡ true) ↔ ((i : ℕ) → i < length xs → finished b (instance_at (width b) i r) ≡ true)
 
 -- ---- points where readings go astray
 

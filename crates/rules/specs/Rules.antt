@@ -1,5 +1,5 @@
 -- The rules by which an event moves the cells of a part. Each family of rules takes as parameters how the parts of its operator move.
-use Rattle.std.specs.Prelude.{◌≡◌, ℕ, suc, Bool, true, false, ◌||◌, List, [], ◌∷◌, ◌++◌, drop, Option, Some, ◌==◌}
+use Rattle.std.specs.Prelude.{◌≡◌, ℕ, suc, Bool, true, false, ◌||◌, List, [], ◌∷◌, ◌++◌, drop, Some, ◌==◌}
 use Rattle.std.specs.List.{slice_get}
 use mathlib.Core.List.{Memᴰ}
 use Rattle.notation.specs.declared.arrow.Arrow.{Arrow}

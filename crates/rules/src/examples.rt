@@ -1,4 +1,4 @@
-ghost use Rattle.rules.specs.Examples.{AxleBegins, AxleSelected, AxleStored, SidesApart, SidesTogether, HandingOver, EitherSide, GuardedSteps, GuardedAgain, Wheels, Waiting, WaitingAlone, Shift, Fork};
+ghost use Rattle.rules.specs.Examples.{AxleBegins, AxleSelected, AxleStored, SidesApart, SidesTogether, HandingOver, EitherSide, GuardedSteps, GuardedAgain, Wheels, Waiting, WaitingAlone, Shift, Fork, Nested};
 
 /// Small diagrams have the rows and menus that are written beside them, and no others.
 pub fn examples_hold()
@@ -16,4 +16,5 @@ pub fn examples_hold()
     ensures an_arrow_waits_for_no_elementary_state { WaitingAlone }
     ensures a_sequence_restarts_after_both_parts { Shift }
     ensures two_arrows_give_one_row_and_one_event_two { Fork }
+    ensures nested_binders_give_outer_and_inner { Nested }
 {}

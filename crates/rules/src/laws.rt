@@ -1,6 +1,6 @@
 ghost use Rattle.rules.specs.Laws.{ListedIsDerived, DerivedIsListed, ChainsBegin, ChainsGoOn, ChainsJoin, EndsAreListed, EndsRise, OnlyOneListOfEnds};
 ghost use Rattle.rules.specs.Laws.{InitialHasWidth, SuccessorHasWidth, EndHasWidth, ProceduresAreSound, InitialInRange, SuccessorInRange, EndInRange};
-ghost use Rattle.rules.specs.Laws.{BothSidesMove, OneSideMoves, AllInstancesMove, OneInstanceMovesAlone, NoInstanceNoMove};
+ghost use Rattle.rules.specs.Laws.{BothSidesMove, OneSideMoves, AllInstancesMove, OneInstanceMovesAlone, NoInstanceNoMove, BothSidesFinish, EveryInstanceFinishes};
 ghost use Rattle.rules.specs.Laws.{SequenceFinished, GuardAskedOnce, GuardFinished, ClosureStarts, ClosureRestartsOnlyFinished, FinishedClosureRestarts, ElementaryIsNotWaitedFor, ChoiceFinished, QuantifiedChoiceFinished};
 ghost use Rattle.rules.specs.Laws.{SuccessorIsCarried, CarriedIsCandidate, MenuIsExact, TreesUnfold, ChildrenAreBelow};
 
@@ -46,6 +46,12 @@ pub fn synchronisations_move()
     ensures in_the_set_every_instance_moves { AllInstancesMove }
     ensures outside_the_set_one_instance_moves { OneInstanceMovesAlone }
     ensures without_a_value_nothing_moves { NoInstanceNoMove }
+{}
+
+/// When synchronisations are finished.
+pub fn synchronisations_finish()
+    ensures both_sides_are_finished { BothSidesFinish }
+    ensures every_instance_is_finished { EveryInstanceFinishes }
 {}
 
 /// The points where readings of the rules go astray.

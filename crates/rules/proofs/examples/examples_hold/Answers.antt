@@ -14,7 +14,7 @@ returns-clause-an_axle_is_selected c = record { rows = ends-exactly _ _ _ _ refl
 
 pub returns-clause-that_axle_is_measured : goal.returns-clause-that_axle_is_measured
 unfolding tree_of join placed over for_each past_zero if_some one_if targets arranged passing sound
-returns-clause-that_axle_is_measured c = record { rows = ends-exactly _ _ _ _ refl; menu = menu-exactly (type_0_has (1 ∷ 2 ∷ 3 ∷ [])) axle 2 _ _ _ refl refl; other = ends-exactly _ _ _ _ refl }
+returns-clause-that_axle_is_measured c = record { rows = ends-exactly _ _ _ _ refl; unfinished = refl; menu = menu-exactly (type_0_has (1 ∷ 2 ∷ 3 ∷ [])) axle 2 _ _ _ refl refl; other = ends-exactly _ _ _ _ refl }
 
 pub returns-clause-then_the_next_axle : goal.returns-clause-then_the_next_axle
 unfolding tree_of join placed over for_each past_zero if_some one_if targets arranged passing sound
@@ -34,7 +34,7 @@ returns-clause-a_first_part_goes_on_or_hands_over c = record { once = ends-exact
 
 pub returns-clause-a_choice_keeps_both_sides : goal.returns-clause-a_choice_keeps_both_sides
 unfolding tree_of join placed over for_each past_zero if_some one_if targets arranged
-returns-clause-a_choice_keeps_both_sides c = ends-exactly _ _ _ _ refl
+returns-clause-a_choice_keeps_both_sides c = record { begins = ends-exactly _ _ _ _ refl; unbegun = refl; once = ends-exactly _ _ _ _ refl; left = refl; right = refl }
 
 pub returns-clause-a_guard_is_asked_at_the_first_event : goal.returns-clause-a_guard_is_asked_at_the_first_event
 unfolding tree_of join placed over for_each past_zero if_some one_if targets arranged
@@ -42,7 +42,7 @@ returns-clause-a_guard_is_asked_at_the_first_event c = record { twice = ends-exa
 
 pub returns-clause-a_guard_is_asked_at_each_start : goal.returns-clause-a_guard_is_asked_at_each_start
 unfolding tree_of join placed over for_each past_zero if_some one_if targets arranged
-returns-clause-a_guard_is_asked_at_each_start c = record { once = ends-exactly _ _ _ _ refl; twice = ends-exactly _ _ _ _ refl }
+returns-clause-a_guard_is_asked_at_each_start c = record { once = ends-exactly _ _ _ _ refl; done = refl; twice = ends-exactly _ _ _ _ refl }
 
 pub returns-clause-all_wheels_are_stored_at_once : goal.returns-clause-all_wheels_are_stored_at_once
 unfolding tree_of join placed over for_each past_zero if_some one_if targets arranged
@@ -50,7 +50,7 @@ returns-clause-all_wheels_are_stored_at_once c = record { none_read = ends-exact
 
 pub returns-clause-an_arrow_waits_for_a_child : goal.returns-clause-an_arrow_waits_for_a_child
 unfolding tree_of join placed over for_each past_zero if_some one_if targets arranged
-returns-clause-an_arrow_waits_for_a_child c = record { too_early = ends-exactly _ _ _ _ refl; child_moved = ends-exactly _ _ _ _ refl; left = ends-exactly _ _ _ _ refl }
+returns-clause-an_arrow_waits_for_a_child c = record { too_early = ends-exactly _ _ _ _ refl; unfinished = refl; child_moved = ends-exactly _ _ _ _ refl; done = refl; left = ends-exactly _ _ _ _ refl }
 
 pub returns-clause-an_arrow_waits_for_no_elementary_state : goal.returns-clause-an_arrow_waits_for_no_elementary_state
 unfolding tree_of join placed over for_each past_zero if_some one_if targets arranged
@@ -62,4 +62,8 @@ returns-clause-a_sequence_restarts_after_both_parts c = record { first_part = en
 
 pub returns-clause-two_arrows_give_one_row_and_one_event_two : goal.returns-clause-two_arrows_give_one_row_and_one_event_two
 unfolding tree_of join placed over for_each past_zero if_some one_if targets arranged
-returns-clause-two_arrows_give_one_row_and_one_event_two c = record { one = ends-exactly _ _ _ _ refl; two = ends-exactly _ _ _ _ refl }
+returns-clause-two_arrows_give_one_row_and_one_event_two c = record { begins = ends-exactly _ _ _ _ refl; one = ends-exactly _ _ _ _ refl; two = ends-exactly _ _ _ _ refl }
+
+pub returns-clause-nested_binders_give_outer_and_inner : goal.returns-clause-nested_binders_give_outer_and_inner
+unfolding tree_of join placed over for_each past_zero if_some one_if targets arranged
+returns-clause-nested_binders_give_outer_and_inner c = record { begins = ends-exactly _ _ _ _ refl; chosen = ends-exactly _ _ _ _ refl; twice = ends-exactly _ _ _ _ refl; too_few = ends-exactly _ _ _ _ refl }
