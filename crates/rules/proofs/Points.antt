@@ -1,8 +1,9 @@
 -- Sides of a synchronisation, and the points where readings go astray.
 use Rattle.std.proofs.Common.{◌≡◌, refl, sym, ◌∙◌, ap, subst, ℕ, zero, suc, ◌+◌, Bool, true, false, ◌&&◌, ◌||◌, true≢false, ◌⊎◌, inl, inr, List, [], ◌∷◌, ◌++◌, length, drop, length-append, length-drop, le_of_suc-le-suc, not-suc-le-zero, ◌<◌, arith}
 use Rattle.std.proofs.lemmas.Bool.{and_parts, and_from}
-use Rattle.rules.specs.Trees.{Tree, sequence, closure, guarded, choice, synchronisation, quantified_choice, quantified_synchronisation, bound}
-use Rattle.rules.specs.Cells.{Cells, cell, rest, fit, width, has_value, part, tagged, initial, finished, by_tag, by_side, all_instances}
+use Rattle.notation.specs.declared.node.Mark.{Mark}
+use Rattle.rules.specs.Trees.{NumberedArrow, Tree, automaton, sequence, closure, guarded, choice, synchronisation, quantified_choice, quantified_synchronisation, bound}
+use Rattle.rules.specs.Cells.{Cells, cell, rest, fit, width, has_value, part, tagged, initial, finished, by_mark, by_tag, by_side, all_instances}
 use Rattle.rules.specs.Rules.{Motion, Step, OneMoves}
 use Rattle.rules.specs.Rules.ClosureRule.{clo-1, clo-2}
 use Rattle.rules.specs.Rules.GuardRule.{gua-1, gua-2}
@@ -10,7 +11,7 @@ use Rattle.rules.specs.Rules.SynchronisationRule.{syn-1, syn-2, syn-3}
 use Rattle.rules.specs.Rules.OneMoves.{this_one, later_one}
 use Rattle.rules.specs.Rules.QuantifiedSynchronisationRule.{qsy-1, qsy-2}
 use Rattle.rules.specs.Instances.{instance_at, EveryInstanceMoves, OneInstanceMoves}
-use Rattle.rules.specs.Laws.{BothSidesMove, OneSideMoves, AllInstancesMove, OneInstanceMovesAlone, NoInstanceNoMove, BothSidesFinish, EveryInstanceFinishes, SequenceFinished, GuardAskedOnce, GuardFinished, ClosureStarts, ClosureRestartsOnlyFinished, FinishedClosureRestarts, ElementaryIsNotWaitedFor, ChoiceFinished, QuantifiedChoiceFinished}
+use Rattle.rules.specs.Laws.{BothSidesMove, OneSideMoves, AllInstancesMove, OneInstanceMovesAlone, NoInstanceNoMove, BothSidesFinish, EveryInstanceFinishes, UnmarkedUnfinished, ShallowFinished, DeepFinished, SequenceFinished, GuardAskedOnce, GuardFinished, ClosureStarts, ClosureRestartsOnlyFinished, FinishedClosureRestarts, ElementaryIsNotWaitedFor, ChoiceFinished, QuantifiedChoiceFinished}
 use Rattle.rules.proofs.Widths.{length-fit, step-width}
 use Rattle.rules.proofs.Instances.{fit-append, drop-append, fit-drop, every-out, every-in, one-out, one-in}
 use Rattle.rules.proofs.InRange.{fit-exact}
@@ -116,6 +117,18 @@ each-at-all test n (x ∷ xs) r h = and_from _ _ (h 0 (omega arith)) (each-at-al
 
 pub every-instance-finishes : EveryInstanceFinishes
 every-instance-finishes xs labels b r = (all-at-each (λ s. finished b s) (width b) xs r, each-at-all (λ s. finished b s) (width b) xs r)
+
+pub unmarked-unfinished : UnmarkedUnfinished
+unmarked-unfinished count start mark child ws r is = ap (λ (m : Mark). by_mark m (finished (child (cell r)) (part (child (cell r)) (rest r)))) is
+
+pub shallow-finished : ShallowFinished
+shallow-finished count start mark child ws r is = ap (λ (m : Mark). by_mark m (finished (child (cell r)) (part (child (cell r)) (rest r)))) is
+
+pub deep-finished : DeepFinished
+deep-finished count start mark child ws r is = (λ h. sym by ∙ h, λ h. by ∙ h)
+  where
+    by : finished (automaton count start mark child ws) r ≡ finished (child (cell r)) (part (child (cell r)) (rest r))
+    by = ap (λ (m : Mark). by_mark m (finished (child (cell r)) (part (child (cell r)) (rest r)))) is
 
 pub sequence-finished : SequenceFinished
 sequence-finished a b r c = (λ h. and_parts _ _ (sym by ∙ h), λ h. by ∙ and_from _ _ h.0 h.1)

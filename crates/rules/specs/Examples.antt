@@ -54,6 +54,10 @@ waiting_arrow node from to label = record { node = node; from = from; to = to; l
 abbrev pub arrow_of_two : ℕ → ℕ → ℕ → ℕ → Argument → Argument → Arrow
 arrow_of_two node from to label first second = record { node = node; from = from; to = to; label = label; waits = false; guard = None; first = first; second = second }
 
+-- one with a guard
+abbrev pub guarded_arrow : ℕ → ℕ → ℕ → ℕ → ℕ → Arrow
+guarded_arrow node from to label guard = record { node = node; from = from; to = to; label = label; waits = false; guard = Some guard; first = Absent; second = Absent }
+
 -- a set of labels
 abbrev pub set_of : List ℕ → Labels
 set_of ls = record { count = length ls; table = ls }
@@ -190,6 +194,18 @@ pub record GuardedAgain : Type 0 where
   pub done : finished (tree_of (type_0_has []) guarded_again 2) (1 ∷ 1 ∷ 1 ∷ []) ≡ true
   pub twice : EndsExactly (tree_of (type_0_has []) guarded_again 2) one_of_label_8 (bare 8 ∷ bare 8 ∷ []) []
 
+-- ---- a guard on an arrow: it is asked at every event
+
+abbrev pub guarded_way : Drawing
+guarded_way = record {
+  nodes = states (plain ∷ plain ∷ []) ∷ [];
+  arrows = guarded_arrow 0 0 1 8 0 ∷ arrow 0 1 0 9 Absent ∷ [];
+}
+
+pub record GuardedWay : Type 0 where
+  pub once : EndsExactly (tree_of (type_0_has []) guarded_way 0) one_of_label_8 (bare 8 ∷ bare 9 ∷ []) ((0 ∷ []) ∷ [])
+  pub twice : EndsExactly (tree_of (type_0_has []) guarded_way 0) one_of_label_8 (bare 8 ∷ bare 9 ∷ bare 8 ∷ []) []
+
 -- ---- two wheels, each read for itself, and then both stored at once
 
 abbrev pub wheels : Drawing
@@ -208,12 +224,12 @@ pub record Wheels : Type 0 where
   pub both_read : EndsExactly wheels_tree silent (with_one 9 1 ∷ with_one 9 2 ∷ []) ((1 ∷ 1 ∷ []) ∷ [])
   pub stored : EndsExactly wheels_tree silent (with_one 9 1 ∷ with_one 9 2 ∷ bare 10 ∷ []) ((2 ∷ 2 ∷ []) ∷ [])
 
--- ---- an arrow that waits for the child of its state, and one that waits where there is none
+-- ---- an arrow that waits for the child of its state, one that leads back to that state, and one that waits where there is no child
 
 abbrev pub waiting : Drawing
 waiting = record {
   nodes = states (plain ∷ final ∷ []) ∷ states (holding 0 ∷ plain ∷ []) ∷ [];
-  arrows = arrow 0 0 1 11 Absent ∷ waiting_arrow 1 0 1 12 ∷ [];
+  arrows = arrow 0 0 1 11 Absent ∷ waiting_arrow 1 0 1 12 ∷ arrow 1 0 0 13 Absent ∷ [];
 }
 
 abbrev pub waiting_tree : Tree
@@ -225,6 +241,7 @@ pub record Waiting : Type 0 where
   pub child_moved : EndsExactly waiting_tree silent (bare 11 ∷ []) ((0 ∷ 1 ∷ []) ∷ [])
   pub done : finished waiting_tree (0 ∷ 1 ∷ []) ≡ true
   pub left : EndsExactly waiting_tree silent (bare 11 ∷ bare 12 ∷ []) ((1 ∷ 0 ∷ []) ∷ [])
+  pub anew : EndsExactly waiting_tree silent (bare 11 ∷ bare 13 ∷ []) ((0 ∷ 0 ∷ []) ∷ [])
 
 abbrev pub waiting_alone : Drawing
 waiting_alone = record { nodes = states (plain ∷ plain ∷ []) ∷ []; arrows = waiting_arrow 0 0 1 12 ∷ [] }

@@ -8,10 +8,12 @@ use Rattle.event.specs.Forms.{InForm}
 use Rattle.event.specs.declared.event.Event.{Event}
 use Rattle.host.specs.Meanings.{Meaning}
 use Rattle.notation.specs.Parts.{children_of}
+use Rattle.notation.specs.declared.node.Mark.{Mark}
+use Rattle.notation.specs.declared.node.Mark.TheVariants.{Unmarked, Shallow, Deep}
 use Rattle.notation.specs.declared.node.Node.{Node}
 use Rattle.procedure.specs.Procedures.{drawing}
 use Rattle.procedure.specs.declared.procedure.Procedure.{Procedure}
-use Rattle.rules.specs.Trees.{Tree, elementary, sequence, closure, guarded, choice, synchronisation, quantified_choice, quantified_synchronisation, Variables, no_variables, bound, Guards}
+use Rattle.rules.specs.Trees.{NumberedArrow, Tree, elementary, automaton, sequence, closure, guarded, choice, synchronisation, quantified_choice, quantified_synchronisation, Variables, no_variables, bound, Guards}
 use Rattle.rules.specs.Cells.{Cells, cell, rest, times, width, has_value, part, tagged, initial, finished, may_leave}
 use Rattle.rules.specs.Rules.{in_set, Step}
 use Rattle.rules.specs.Chains.{answers_after, Chain, IsEnd, GoesOn}
@@ -150,6 +152,22 @@ EveryInstanceFinishes =
     → (finished (quantified_synchronisation xs labels b) r ≡ true) ↔ ((i : ℕ) → i < length xs → finished b (instance_at (width b) i r) ≡ true)
 
 -- ---- points where readings go astray
+
+-- a state without a mark is not finished, one that is marked shallow is, one that is marked deep exactly when its child is
+abbrev pub UnmarkedUnfinished : Type 0
+UnmarkedUnfinished =
+    (count start : ℕ) (mark : ℕ → Mark) (child : ℕ → Tree) (arrows : List NumberedArrow) (r : Cells)
+    → mark (cell r) ≡ Unmarked → finished (automaton count start mark child arrows) r ≡ false
+
+abbrev pub ShallowFinished : Type 0
+ShallowFinished =
+    (count start : ℕ) (mark : ℕ → Mark) (child : ℕ → Tree) (arrows : List NumberedArrow) (r : Cells)
+    → mark (cell r) ≡ Shallow → finished (automaton count start mark child arrows) r ≡ true
+
+abbrev pub DeepFinished : Type 0
+DeepFinished =
+    (count start : ℕ) (mark : ℕ → Mark) (child : ℕ → Tree) (arrows : List NumberedArrow) (r : Cells)
+    → mark (cell r) ≡ Deep → (finished (automaton count start mark child arrows) r ≡ true) ↔ (finished (child (cell r)) (part (child (cell r)) (rest r)) ≡ true)
 
 -- a sequence in its first part is finished exactly when that part is and the second part's initial state is too
 abbrev pub SequenceFinished : Type 0

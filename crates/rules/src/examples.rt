@@ -1,4 +1,4 @@
-ghost use Rattle.rules.specs.Examples.{AxleBegins, AxleSelected, AxleStored, SidesApart, SidesTogether, HandingOver, EitherSide, GuardedSteps, GuardedAgain, Wheels, Waiting, WaitingAlone, Shift, Fork, Nested};
+ghost use Rattle.rules.specs.Examples.{AxleBegins, AxleSelected, AxleStored, SidesApart, SidesTogether, HandingOver, EitherSide, GuardedSteps, GuardedAgain, GuardedWay, Wheels, Waiting, WaitingAlone, Shift, Fork, Nested};
 
 /// Small diagrams have the rows and menus that are written beside them, and no others.
 pub fn examples_hold()
@@ -11,6 +11,7 @@ pub fn examples_hold()
     ensures a_choice_keeps_both_sides { EitherSide }
     ensures a_guard_is_asked_at_the_first_event { GuardedSteps }
     ensures a_guard_is_asked_at_each_start { GuardedAgain }
+    ensures an_arrows_guard_is_asked_at_every_event { GuardedWay }
     ensures all_wheels_are_stored_at_once { Wheels }
     ensures an_arrow_waits_for_a_child { Waiting }
     ensures an_arrow_waits_for_no_elementary_state { WaitingAlone }

@@ -1,7 +1,7 @@
 ghost use Rattle.rules.specs.Laws.{ListedIsDerived, DerivedIsListed, ChainsBegin, ChainsGoOn, ChainsJoin, EndsAreListed, EndsRise, OnlyOneListOfEnds};
 ghost use Rattle.rules.specs.Laws.{InitialHasWidth, SuccessorHasWidth, EndHasWidth, ProceduresAreSound, InitialInRange, SuccessorInRange, EndInRange};
 ghost use Rattle.rules.specs.Laws.{BothSidesMove, OneSideMoves, AllInstancesMove, OneInstanceMovesAlone, NoInstanceNoMove, BothSidesFinish, EveryInstanceFinishes};
-ghost use Rattle.rules.specs.Laws.{SequenceFinished, GuardAskedOnce, GuardFinished, ClosureStarts, ClosureRestartsOnlyFinished, FinishedClosureRestarts, ElementaryIsNotWaitedFor, ChoiceFinished, QuantifiedChoiceFinished};
+ghost use Rattle.rules.specs.Laws.{UnmarkedUnfinished, ShallowFinished, DeepFinished, SequenceFinished, GuardAskedOnce, GuardFinished, ClosureStarts, ClosureRestartsOnlyFinished, FinishedClosureRestarts, ElementaryIsNotWaitedFor, ChoiceFinished, QuantifiedChoiceFinished};
 ghost use Rattle.rules.specs.Laws.{SuccessorIsCarried, CarriedIsCandidate, MenuIsExact, TreesUnfold, ChildrenAreBelow};
 
 /// The computed moves are exactly those that the rules derive.
@@ -56,6 +56,9 @@ pub fn synchronisations_finish()
 
 /// The points where readings of the rules go astray.
 pub fn readings_are_settled()
+    ensures an_unmarked_state_is_not_finished { UnmarkedUnfinished }
+    ensures a_shallow_state_is_finished { ShallowFinished }
+    ensures a_deep_state_is_finished_as_its_child { DeepFinished }
     ensures a_sequence_finishes_with_both_parts { SequenceFinished }
     ensures a_guard_is_asked_once { GuardAskedOnce }
     ensures a_guard_not_started_is_finished_as_its_body_begins { GuardFinished }

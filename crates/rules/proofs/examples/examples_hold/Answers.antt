@@ -50,7 +50,7 @@ returns-clause-all_wheels_are_stored_at_once c = record { none_read = ends-exact
 
 pub returns-clause-an_arrow_waits_for_a_child : goal.returns-clause-an_arrow_waits_for_a_child
 unfolding tree_of join placed over for_each past_zero if_some one_if targets arranged
-returns-clause-an_arrow_waits_for_a_child c = record { too_early = ends-exactly _ _ _ _ refl; unfinished = refl; child_moved = ends-exactly _ _ _ _ refl; done = refl; left = ends-exactly _ _ _ _ refl }
+returns-clause-an_arrow_waits_for_a_child c = record { too_early = ends-exactly _ _ _ _ refl; unfinished = refl; child_moved = ends-exactly _ _ _ _ refl; done = refl; left = ends-exactly _ _ _ _ refl; anew = ends-exactly _ _ _ _ refl }
 
 pub returns-clause-an_arrow_waits_for_no_elementary_state : goal.returns-clause-an_arrow_waits_for_no_elementary_state
 unfolding tree_of join placed over for_each past_zero if_some one_if targets arranged
@@ -67,3 +67,7 @@ returns-clause-two_arrows_give_one_row_and_one_event_two c = record { begins = e
 pub returns-clause-nested_binders_give_outer_and_inner : goal.returns-clause-nested_binders_give_outer_and_inner
 unfolding tree_of join placed over for_each past_zero if_some one_if targets arranged
 returns-clause-nested_binders_give_outer_and_inner c = record { begins = ends-exactly _ _ _ _ refl; chosen = ends-exactly _ _ _ _ refl; twice = ends-exactly _ _ _ _ refl; too_few = ends-exactly _ _ _ _ refl }
+
+pub returns-clause-an_arrows_guard_is_asked_at_every_event : goal.returns-clause-an_arrows_guard_is_asked_at_every_event
+unfolding tree_of join placed over for_each past_zero if_some one_if targets arranged
+returns-clause-an_arrows_guard_is_asked_at_every_event c = record { once = ends-exactly _ _ _ _ refl; twice = ends-exactly _ _ _ _ refl }

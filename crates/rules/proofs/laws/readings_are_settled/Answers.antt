@@ -1,4 +1,4 @@
-use Rattle.rules.proofs.Points.{sequence-finished, guard-asked-once, guard-finished, closure-starts, closure-goes-on, closure-restarts, elementary-not-waited, choice-finished, quantified-choice-finished}
+use Rattle.rules.proofs.Points.{unmarked-unfinished, shallow-finished, deep-finished, sequence-finished, guard-asked-once, guard-finished, closure-starts, closure-goes-on, closure-restarts, elementary-not-waited, choice-finished, quantified-choice-finished}
 use Rattle.rules.proofs.laws.readings_are_settled.Goals as goal
 
 pub returns-clause-a_sequence_finishes_with_both_parts : goal.returns-clause-a_sequence_finishes_with_both_parts
@@ -27,3 +27,12 @@ returns-clause-a_choice_not_begun_is_finished_by_either_side c = choice-finished
 
 pub returns-clause-a_quantified_choice_not_begun_is_finished_as_its_body_begins : goal.returns-clause-a_quantified_choice_not_begun_is_finished_as_its_body_begins
 returns-clause-a_quantified_choice_not_begun_is_finished_as_its_body_begins c = quantified-choice-finished
+
+pub returns-clause-an_unmarked_state_is_not_finished : goal.returns-clause-an_unmarked_state_is_not_finished
+returns-clause-an_unmarked_state_is_not_finished c = unmarked-unfinished
+
+pub returns-clause-a_shallow_state_is_finished : goal.returns-clause-a_shallow_state_is_finished
+returns-clause-a_shallow_state_is_finished c = shallow-finished
+
+pub returns-clause-a_deep_state_is_finished_as_its_child : goal.returns-clause-a_deep_state_is_finished_as_its_child
+returns-clause-a_deep_state_is_finished_as_its_child c = deep-finished
