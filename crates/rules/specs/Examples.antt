@@ -14,7 +14,10 @@ use Rattle.procedure.specs.Drawings.{Drawing}
 use Rattle.event.specs.Forms.{InForm}
 use Rattle.event.specs.declared.event.Event.{Event}
 use Rattle.host.specs.Meanings.{Meaning}
+use Rattle.host.specs.Limiting.{limits_answer}
 use Rattle.host.specs.Tallying.{tallies_answer}
+use Rattle.host.specs.declared.limit.Comparison.TheVariants.{Equal, Above}
+use Rattle.host.specs.declared.limit.Operand.TheVariants as o
 use Rattle.rules.specs.Trees.{Tree}
 use Rattle.rules.specs.Cells.{Cells, finished}
 use Rattle.rules.specs.Chains.{IsEnd, GoesOn}
@@ -140,24 +143,38 @@ pub record SidesTogether : Type 0 where
   pub once : EndsExactly (tree_of (type_0_has []) (two_sides (5 ∷ [])) 2) silent (bare 5 ∷ []) ((1 ∷ 1 ∷ []) ∷ [])
   pub twice : EndsExactly (tree_of (type_0_has []) (two_sides (5 ∷ [])) 2) silent (bare 5 ∷ bare 5 ∷ []) []
 
+-- two sides that begin in different states
+abbrev pub uneven_sides : Drawing
+uneven_sides = record {
+  nodes = starting_in 1 (plain ∷ plain ∷ []) ∷ states (plain ∷ plain ∷ []) ∷ Synchronisation 0 1 (set_of []) ∷ [];
+  arrows = [];
+}
+
+abbrev pub UnevenSides : Type 0
+UnevenSides = EndsExactly (tree_of (type_0_has []) uneven_sides 2) silent [] ((1 ∷ 0 ∷ []) ∷ [])
+
 -- ---- a first part that may go on when it is finished, and a second part that takes the same event
 
 abbrev pub handing_over : Drawing
 handing_over = record {
   nodes = states (plain ∷ final ∷ []) ∷ states (plain ∷ plain ∷ []) ∷ Sequence 0 1 ∷ [];
-  arrows = arrow 0 0 1 6 Absent ∷ arrow 0 1 1 6 Absent ∷ arrow 1 0 1 6 Absent ∷ [];
+  arrows = arrow 0 0 1 6 Absent ∷ arrow 0 1 1 6 Absent ∷ arrow 1 0 1 6 Absent ∷ arrow 1 1 0 3 Absent ∷ [];
 }
 
-pub record HandingOver : Type 0 where
-  pub once : EndsExactly (tree_of (type_0_has []) handing_over 2) silent (bare 6 ∷ []) ((0 ∷ 1 ∷ []) ∷ [])
-  pub twice : EndsExactly (tree_of (type_0_has []) handing_over 2) silent (bare 6 ∷ bare 6 ∷ []) ((0 ∷ 1 ∷ []) ∷ (1 ∷ 1 ∷ []) ∷ [])
+abbrev pub handing_over_tree : Tree
+handing_over_tree = tree_of (type_0_has []) handing_over 2
 
--- ---- a choice between two sides that take the same event; only the right one is final afterwards
+pub record HandingOver : Type 0 where
+  pub once : EndsExactly handing_over_tree silent (bare 6 ∷ []) ((0 ∷ 1 ∷ []) ∷ [])
+  pub twice : EndsExactly handing_over_tree silent (bare 6 ∷ bare 6 ∷ []) ((0 ∷ 1 ∷ []) ∷ (1 ∷ 1 ∷ []) ∷ [])
+  pub second_goes_on : EndsExactly handing_over_tree silent (bare 6 ∷ bare 6 ∷ bare 3 ∷ []) ((1 ∷ 0 ∷ []) ∷ [])
+
+-- ---- a choice between two sides that take the same event, of which only the right one is final afterwards; a later event decides
 
 abbrev pub either_side : Drawing
 either_side = record {
   nodes = states (plain ∷ plain ∷ []) ∷ states (plain ∷ final ∷ []) ∷ Choice 0 1 ∷ [];
-  arrows = arrow 0 0 1 7 Absent ∷ arrow 1 0 1 7 Absent ∷ [];
+  arrows = arrow 0 0 1 7 Absent ∷ arrow 0 1 0 3 Absent ∷ arrow 1 0 1 7 Absent ∷ arrow 1 1 0 4 Absent ∷ [];
 }
 
 abbrev pub either_tree : Tree
@@ -169,6 +186,8 @@ pub record EitherSide : Type 0 where
   pub once : EndsExactly either_tree silent (bare 7 ∷ []) ((1 ∷ 1 ∷ []) ∷ (2 ∷ 1 ∷ []) ∷ [])
   pub left : finished either_tree (1 ∷ 1 ∷ []) ≡ false
   pub right : finished either_tree (2 ∷ 1 ∷ []) ≡ true
+  pub left_decided : EndsExactly either_tree silent (bare 7 ∷ bare 3 ∷ []) ((1 ∷ 0 ∷ []) ∷ [])
+  pub right_decided : EndsExactly either_tree silent (bare 7 ∷ bare 4 ∷ []) ((2 ∷ 0 ∷ []) ∷ [])
 
 -- ---- a guard that holds at the first event only, and is asked at no other
 
@@ -299,3 +318,24 @@ pub record Nested : Type 0 where
   pub chosen : EndsExactly nested_tree silent (with_two 5 9 7 ∷ []) ((2 ∷ 1 ∷ 1 ∷ []) ∷ [])
   pub twice : EndsExactly nested_tree silent (with_two 5 7 7 ∷ []) ((1 ∷ 1 ∷ 1 ∷ []) ∷ [])
   pub too_few : EndsExactly nested_tree silent (with_one 5 9 ∷ []) []
+
+-- ---- guards that look at the variables: one on a node, one on an arrow
+
+-- guard 0 holds for an outer value above 8, guard 1 for the inner value 7
+abbrev pub limited : Meaning
+limited w guard e outer inner =
+    limits_answer (Some (record { operand = o.Outer; comparison = Above; constant = 8 }) ∷ Some (record { operand = o.Inner; comparison = Equal; constant = 7 }) ∷ []) guard e outer inner
+
+abbrev pub choosy : Drawing
+choosy = record {
+  nodes = states (plain ∷ plain ∷ []) ∷ Guard 0 0 ∷ QuantifiedChoice 0 1 ∷ QuantifiedChoice 0 2 ∷ [];
+  arrows = record { node = 0; from = 0; to = 1; label = 5; waits = false; guard = Some 1; first = Outer; second = Inner } ∷ [];
+}
+
+abbrev pub choosy_tree : Tree
+choosy_tree = tree_of (type_0_has (7 ∷ 9 ∷ [])) choosy 3
+
+pub record Choosy : Type 0 where
+  pub both_hold : EndsExactly choosy_tree limited (with_two 5 9 7 ∷ []) ((2 ∷ 1 ∷ 1 ∷ 1 ∷ []) ∷ [])
+  pub outer_fails : EndsExactly choosy_tree limited (with_two 5 7 7 ∷ []) []
+  pub inner_fails : EndsExactly choosy_tree limited (with_two 5 9 9 ∷ []) []

@@ -1,4 +1,4 @@
-ghost use Rattle.rules.specs.Examples.{AxleBegins, AxleSelected, AxleStored, SidesApart, SidesTogether, HandingOver, EitherSide, GuardedSteps, GuardedAgain, GuardedWay, Wheels, Waiting, WaitingAlone, Shift, Fork, Nested};
+ghost use Rattle.rules.specs.Examples.{AxleBegins, AxleSelected, AxleStored, SidesApart, SidesTogether, UnevenSides, HandingOver, EitherSide, GuardedSteps, GuardedAgain, GuardedWay, Wheels, Waiting, WaitingAlone, Shift, Fork, Nested, Choosy};
 
 /// Small diagrams have the rows and menus that are written beside them, and no others.
 pub fn examples_hold()
@@ -7,6 +7,7 @@ pub fn examples_hold()
     ensures then_the_next_axle { AxleStored }
     ensures two_sides_move_apart { SidesApart }
     ensures two_sides_move_together { SidesTogether }
+    ensures two_sides_begin_each_in_its_state { UnevenSides }
     ensures a_first_part_goes_on_or_hands_over { HandingOver }
     ensures a_choice_keeps_both_sides { EitherSide }
     ensures a_guard_is_asked_at_the_first_event { GuardedSteps }
@@ -18,4 +19,5 @@ pub fn examples_hold()
     ensures a_sequence_restarts_after_both_parts { Shift }
     ensures two_arrows_give_one_row_and_one_event_two { Fork }
     ensures nested_binders_give_outer_and_inner { Nested }
+    ensures guards_look_at_the_variables { Choosy }
 {}

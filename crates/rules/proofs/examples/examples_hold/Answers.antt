@@ -30,11 +30,11 @@ returns-clause-two_sides_move_together c = record { once = ends-exactly _ _ _ _ 
 
 pub returns-clause-a_first_part_goes_on_or_hands_over : goal.returns-clause-a_first_part_goes_on_or_hands_over
 unfolding tree_of join placed over for_each past_zero if_some one_if targets arranged
-returns-clause-a_first_part_goes_on_or_hands_over c = record { once = ends-exactly _ _ _ _ refl; twice = ends-exactly _ _ _ _ refl }
+returns-clause-a_first_part_goes_on_or_hands_over c = record { once = ends-exactly _ _ _ _ refl; twice = ends-exactly _ _ _ _ refl; second_goes_on = ends-exactly _ _ _ _ refl }
 
 pub returns-clause-a_choice_keeps_both_sides : goal.returns-clause-a_choice_keeps_both_sides
 unfolding tree_of join placed over for_each past_zero if_some one_if targets arranged
-returns-clause-a_choice_keeps_both_sides c = record { begins = ends-exactly _ _ _ _ refl; unbegun = refl; once = ends-exactly _ _ _ _ refl; left = refl; right = refl }
+returns-clause-a_choice_keeps_both_sides c = record { begins = ends-exactly _ _ _ _ refl; unbegun = refl; once = ends-exactly _ _ _ _ refl; left = refl; right = refl; left_decided = ends-exactly _ _ _ _ refl; right_decided = ends-exactly _ _ _ _ refl }
 
 pub returns-clause-a_guard_is_asked_at_the_first_event : goal.returns-clause-a_guard_is_asked_at_the_first_event
 unfolding tree_of join placed over for_each past_zero if_some one_if targets arranged
@@ -71,3 +71,11 @@ returns-clause-nested_binders_give_outer_and_inner c = record { begins = ends-ex
 pub returns-clause-an_arrows_guard_is_asked_at_every_event : goal.returns-clause-an_arrows_guard_is_asked_at_every_event
 unfolding tree_of join placed over for_each past_zero if_some one_if targets arranged
 returns-clause-an_arrows_guard_is_asked_at_every_event c = record { once = ends-exactly _ _ _ _ refl; twice = ends-exactly _ _ _ _ refl }
+
+pub returns-clause-two_sides_begin_each_in_its_state : goal.returns-clause-two_sides_begin_each_in_its_state
+unfolding tree_of join placed over for_each past_zero if_some one_if targets arranged
+returns-clause-two_sides_begin_each_in_its_state c = ends-exactly _ _ _ _ refl
+
+pub returns-clause-guards_look_at_the_variables : goal.returns-clause-guards_look_at_the_variables
+unfolding tree_of join placed over for_each past_zero if_some one_if targets arranged
+returns-clause-guards_look_at_the_variables c = record { both_hold = ends-exactly _ _ _ _ refl; outer_fails = ends-exactly _ _ _ _ refl; inner_fails = ends-exactly _ _ _ _ refl }
