@@ -167,6 +167,7 @@ handing_over_tree = tree_of (type_0_has []) handing_over 2
 pub record HandingOver : Type 0 where
   pub once : EndsExactly handing_over_tree silent (bare 6 ∷ []) ((0 ∷ 1 ∷ []) ∷ [])
   pub twice : EndsExactly handing_over_tree silent (bare 6 ∷ bare 6 ∷ []) ((0 ∷ 1 ∷ []) ∷ (1 ∷ 1 ∷ []) ∷ [])
+  pub unfinished : finished handing_over_tree (1 ∷ 1 ∷ []) ≡ false
   pub second_goes_on : EndsExactly handing_over_tree silent (bare 6 ∷ bare 6 ∷ bare 3 ∷ []) ((1 ∷ 0 ∷ []) ∷ [])
 
 -- ---- a choice between two sides that take the same event, of which only the right one is final afterwards; a later event decides

@@ -30,7 +30,7 @@ returns-clause-two_sides_move_together c = record { once = ends-exactly _ _ _ _ 
 
 pub returns-clause-a_first_part_goes_on_or_hands_over : goal.returns-clause-a_first_part_goes_on_or_hands_over
 unfolding tree_of join placed over for_each past_zero if_some one_if targets arranged
-returns-clause-a_first_part_goes_on_or_hands_over c = record { once = ends-exactly _ _ _ _ refl; twice = ends-exactly _ _ _ _ refl; second_goes_on = ends-exactly _ _ _ _ refl }
+returns-clause-a_first_part_goes_on_or_hands_over c = record { once = ends-exactly _ _ _ _ refl; twice = ends-exactly _ _ _ _ refl; unfinished = refl; second_goes_on = ends-exactly _ _ _ _ refl }
 
 pub returns-clause-a_choice_keeps_both_sides : goal.returns-clause-a_choice_keeps_both_sides
 unfolding tree_of join placed over for_each past_zero if_some one_if targets arranged
