@@ -2,7 +2,7 @@
 use Rattle.std.proofs.Common.{◌≡◌, refl, sym, ◌∙◌, ap, subst, ℕ, zero, suc, ◌+◌, Bool, true, false, ◌&&◌, ◌||◌, true≢false, ◌⊎◌, inl, inr, List, [], ◌∷◌, ◌++◌, length, drop, length-append, length-drop, le_of_suc-le-suc, not-suc-le-zero, ◌<◌, arith}
 use Rattle.std.proofs.lemmas.Bool.{and_parts, and_from}
 use Rattle.notation.specs.declared.node.Mark.{Mark}
-use Rattle.rules.specs.Trees.{NumberedArrow, Tree, automaton, sequence, closure, guarded, choice, synchronisation, quantified_choice, quantified_synchronisation, bound}
+use Rattle.rules.specs.Trees.{Tree, automaton, sequence, closure, guarded, choice, synchronisation, quantified_choice, quantified_synchronisation, bound}
 use Rattle.rules.specs.Cells.{Cells, cell, rest, fit, width, has_value, part, tagged, initial, finished, by_mark, by_tag, by_side, all_instances}
 use Rattle.rules.specs.Rules.{Motion, Step, OneMoves}
 use Rattle.rules.specs.Rules.ClosureRule.{clo-1, clo-2}

@@ -65,13 +65,15 @@ guarded_arrow node from to label guard = record { node = node; from = from; to =
 abbrev pub set_of : List ℕ → Labels
 set_of ls = record { count = length ls; table = ls }
 
--- an event without arguments, with one, and with two
+-- an event without arguments
 abbrev pub bare : ℕ → Event
 bare label = record { label = label; count = 0; first = 0; second = 0 }
 
+-- with a first argument
 abbrev pub with_one : ℕ → ℕ → Event
 with_one label x = record { label = label; count = 1; first = x; second = 0 }
 
+-- with a first and a second one
 abbrev pub with_two : ℕ → ℕ → ℕ → Event
 with_two label x y = record { label = label; count = 2; first = x; second = y }
 
@@ -97,12 +99,14 @@ MenuExactly t m events l = (e : Event) → InForm e → GoesOn t m events e ↔ 
 
 -- ---- an axle is selected, measured any number of times, stored; then the next
 
+-- nothing selected, selected, stored; the automaton stands under a choice of the axle, and that under a closure
 abbrev pub axle : Drawing
 axle = record {
   nodes = states (plain ∷ plain ∷ final ∷ []) ∷ QuantifiedChoice 0 0 ∷ Closure 1 ∷ [];
   arrows = arrow 0 0 1 2 Outer ∷ arrow 0 1 1 3 Outer ∷ arrow 0 1 2 4 Absent ∷ [];
 }
 
+-- its tree with the axles 1, 2, 3
 abbrev pub axle_tree : Tree
 axle_tree = tree_of (type_0_has (1 ∷ 2 ∷ 3 ∷ [])) axle 2
 
@@ -127,6 +131,7 @@ pub record AxleStored : Type 0 where
 
 -- ---- two sides that do not meet, and the same two that do
 
+-- two automata of one step on label 5, synchronised on a set
 abbrev pub two_sides : List ℕ → Drawing
 two_sides ls = record {
   nodes = states (plain ∷ plain ∷ []) ∷ states (plain ∷ plain ∷ []) ∷ Synchronisation 0 1 (set_of ls) ∷ [];
@@ -150,20 +155,24 @@ uneven_sides = record {
   arrows = [];
 }
 
+-- they begin each in its own
 abbrev pub UnevenSides : Type 0
 UnevenSides = EndsExactly (tree_of (type_0_has []) uneven_sides 2) silent [] ((1 ∷ 0 ∷ []) ∷ [])
 
 -- ---- a first part that may go on when it is finished, and a second part that takes the same event
 
+-- one step and then a loop on label 6; the second part takes 6 once and goes back on 3
 abbrev pub handing_over : Drawing
 handing_over = record {
   nodes = states (plain ∷ final ∷ []) ∷ states (plain ∷ plain ∷ []) ∷ Sequence 0 1 ∷ [];
   arrows = arrow 0 0 1 6 Absent ∷ arrow 0 1 1 6 Absent ∷ arrow 1 0 1 6 Absent ∷ arrow 1 1 0 3 Absent ∷ [];
 }
 
+-- its tree; no type is named
 abbrev pub handing_over_tree : Tree
 handing_over_tree = tree_of (type_0_has []) handing_over 2
 
+-- a second 6 is the first part's or the second part's: both are kept
 pub record HandingOver : Type 0 where
   pub once : EndsExactly handing_over_tree silent (bare 6 ∷ []) ((0 ∷ 1 ∷ []) ∷ [])
   pub twice : EndsExactly handing_over_tree silent (bare 6 ∷ bare 6 ∷ []) ((0 ∷ 1 ∷ []) ∷ (1 ∷ 1 ∷ []) ∷ [])
@@ -172,15 +181,18 @@ pub record HandingOver : Type 0 where
 
 -- ---- a choice between two sides that take the same event, of which only the right one is final afterwards; a later event decides
 
+-- each side takes 7, and then the left one 3, the right one 4
 abbrev pub either_side : Drawing
 either_side = record {
   nodes = states (plain ∷ plain ∷ []) ∷ states (plain ∷ final ∷ []) ∷ Choice 0 1 ∷ [];
   arrows = arrow 0 0 1 7 Absent ∷ arrow 0 1 0 3 Absent ∷ arrow 1 0 1 7 Absent ∷ arrow 1 1 0 4 Absent ∷ [];
 }
 
+-- its tree; no type is named
 abbrev pub either_tree : Tree
 either_tree = tree_of (type_0_has []) either_side 2
 
+-- both sides are kept until 3 or 4 comes
 pub record EitherSide : Type 0 where
   pub begins : EndsExactly either_tree silent [] ((0 ∷ 0 ∷ []) ∷ [])
   pub unbegun : finished either_tree (0 ∷ 0 ∷ []) ≡ false
@@ -192,12 +204,14 @@ pub record EitherSide : Type 0 where
 
 -- ---- a guard that holds at the first event only, and is asked at no other
 
+-- two steps on label 8 under guard 0
 abbrev pub guarded_steps : Drawing
 guarded_steps = record {
   nodes = states (plain ∷ plain ∷ plain ∷ []) ∷ Guard 0 0 ∷ [];
   arrows = arrow 0 0 1 8 Absent ∷ arrow 0 1 2 8 Absent ∷ [];
 }
 
+-- the second 8 is taken though the guard would say no; there is no third step
 pub record GuardedSteps : Type 0 where
   pub twice : EndsExactly (tree_of (type_0_has []) guarded_steps 1) one_of_label_8 (bare 8 ∷ bare 8 ∷ []) ((1 ∷ 2 ∷ []) ∷ [])
   pub thrice : EndsExactly (tree_of (type_0_has []) guarded_steps 1) one_of_label_8 (bare 8 ∷ bare 8 ∷ bare 8 ∷ []) []
@@ -209,6 +223,7 @@ guarded_again = record {
   arrows = arrow 0 0 1 8 Absent ∷ [];
 }
 
+-- the second 8 would start the guard again, and it says no
 pub record GuardedAgain : Type 0 where
   pub once : EndsExactly (tree_of (type_0_has []) guarded_again 2) one_of_label_8 (bare 8 ∷ []) ((1 ∷ 1 ∷ 1 ∷ []) ∷ [])
   pub done : finished (tree_of (type_0_has []) guarded_again 2) (1 ∷ 1 ∷ 1 ∷ []) ≡ true
@@ -216,27 +231,32 @@ pub record GuardedAgain : Type 0 where
 
 -- ---- a guard on an arrow: it is asked at every event
 
+-- guard 0 on the arrow of label 8; back on 9
 abbrev pub guarded_way : Drawing
 guarded_way = record {
   nodes = states (plain ∷ plain ∷ []) ∷ [];
   arrows = guarded_arrow 0 0 1 8 0 ∷ arrow 0 1 0 9 Absent ∷ [];
 }
 
+-- the second 8 asks the guard again, and it says no
 pub record GuardedWay : Type 0 where
   pub once : EndsExactly (tree_of (type_0_has []) guarded_way 0) one_of_label_8 (bare 8 ∷ bare 9 ∷ []) ((0 ∷ []) ∷ [])
   pub twice : EndsExactly (tree_of (type_0_has []) guarded_way 0) one_of_label_8 (bare 8 ∷ bare 9 ∷ bare 8 ∷ []) []
 
 -- ---- two wheels, each read for itself, and then both stored at once
 
+-- for each wheel: not read, read, stored; 10 is in the set
 abbrev pub wheels : Drawing
 wheels = record {
   nodes = states (plain ∷ plain ∷ plain ∷ []) ∷ QuantifiedSynchronisation 0 0 (set_of (10 ∷ [])) ∷ [];
   arrows = arrow 0 0 1 9 Outer ∷ arrow 0 1 2 10 Absent ∷ [];
 }
 
+-- its tree with the wheels 1, 2
 abbrev pub wheels_tree : Tree
 wheels_tree = tree_of (type_0_has (1 ∷ 2 ∷ [])) wheels 1
 
+-- 10 has a successor only once both wheels are read, and then both move
 pub record Wheels : Type 0 where
   pub none_read : EndsExactly wheels_tree silent (bare 10 ∷ []) []
   pub one_read : EndsExactly wheels_tree silent (with_one 9 1 ∷ []) ((1 ∷ 0 ∷ []) ∷ [])
@@ -246,15 +266,18 @@ pub record Wheels : Type 0 where
 
 -- ---- an arrow that waits for the child of its state, one that leads back to that state, and one that waits where there is no child
 
+-- state 0 holds a child of one step on 11; 12 waits for it, 13 does not
 abbrev pub waiting : Drawing
 waiting = record {
   nodes = states (plain ∷ final ∷ []) ∷ states (holding 0 ∷ plain ∷ []) ∷ [];
   arrows = arrow 0 0 1 11 Absent ∷ waiting_arrow 1 0 1 12 ∷ arrow 1 0 0 13 Absent ∷ [];
 }
 
+-- its tree; no type is named
 abbrev pub waiting_tree : Tree
 waiting_tree = tree_of (type_0_has []) waiting 1
 
+-- 12 comes only after 11; 13 leads back to state 0, where the child begins anew
 pub record Waiting : Type 0 where
   pub too_early : EndsExactly waiting_tree silent (bare 12 ∷ []) []
   pub unfinished : finished waiting_tree (0 ∷ 0 ∷ []) ≡ false
@@ -263,23 +286,28 @@ pub record Waiting : Type 0 where
   pub left : EndsExactly waiting_tree silent (bare 11 ∷ bare 12 ∷ []) ((1 ∷ 0 ∷ []) ∷ [])
   pub anew : EndsExactly waiting_tree silent (bare 11 ∷ bare 13 ∷ []) ((0 ∷ 0 ∷ []) ∷ [])
 
+-- a waiting arrow out of a state without a child
 abbrev pub waiting_alone : Drawing
 waiting_alone = record { nodes = states (plain ∷ plain ∷ []) ∷ []; arrows = waiting_arrow 0 0 1 12 ∷ [] }
 
+-- it does not wait
 abbrev pub WaitingAlone : Type 0
 WaitingAlone = EndsExactly (tree_of (type_0_has []) waiting_alone 0) silent (bare 12 ∷ []) ((1 ∷ []) ∷ [])
 
 -- ---- a sequence that is started again and again: its first part alone does not finish it
 
+-- one step on 6, then one on 7, under a closure
 abbrev pub shift : Drawing
 shift = record {
   nodes = states (plain ∷ final ∷ []) ∷ states (plain ∷ final ∷ []) ∷ Sequence 0 1 ∷ Closure 2 ∷ [];
   arrows = arrow 0 0 1 6 Absent ∷ arrow 1 0 1 7 Absent ∷ [];
 }
 
+-- its tree; no type is named
 abbrev pub shift_tree : Tree
 shift_tree = tree_of (type_0_has []) shift 3
 
+-- after 6 alone it does not start again, after 6 and 7 it does
 pub record Shift : Type 0 where
   pub first_part : EndsExactly shift_tree silent (bare 6 ∷ []) ((1 ∷ 0 ∷ 1 ∷ []) ∷ [])
   pub unfinished : finished shift_tree (1 ∷ 0 ∷ 1 ∷ []) ≡ false
@@ -289,15 +317,18 @@ pub record Shift : Type 0 where
 
 -- ---- two arrows to one state, and one event to two states
 
+-- from state 1: twice to 0 on 5, to 2 and to 0 on 6
 abbrev pub fork : Drawing
 fork = record {
   nodes = starting_in 1 (plain ∷ plain ∷ plain ∷ []) ∷ [];
   arrows = arrow 0 1 0 5 Absent ∷ arrow 0 1 0 5 Absent ∷ arrow 0 1 2 6 Absent ∷ arrow 0 1 0 6 Absent ∷ [];
 }
 
+-- its tree; no type is named
 abbrev pub fork_tree : Tree
 fork_tree = tree_of (type_0_has []) fork 0
 
+-- 5 gives one row, 6 gives two
 pub record Fork : Type 0 where
   pub begins : EndsExactly fork_tree silent [] ((1 ∷ []) ∷ [])
   pub one : EndsExactly fork_tree silent (bare 5 ∷ []) ((0 ∷ []) ∷ [])
@@ -305,15 +336,18 @@ pub record Fork : Type 0 where
 
 -- ---- two nested choices of a value: the outer one gives the outer variable, the inner one the inner
 
+-- one arrow with both variables under two choices over type 0
 abbrev pub nested : Drawing
 nested = record {
   nodes = states (plain ∷ plain ∷ []) ∷ QuantifiedChoice 0 0 ∷ QuantifiedChoice 0 1 ∷ [];
   arrows = arrow_of_two 0 0 1 5 Outer Inner ∷ [];
 }
 
+-- its tree with the values 7, 9
 abbrev pub nested_tree : Tree
 nested_tree = tree_of (type_0_has (7 ∷ 9 ∷ [])) nested 2
 
+-- the first argument is the outer choice's value, the second the inner one's; both are asked for
 pub record Nested : Type 0 where
   pub begins : EndsExactly nested_tree silent [] ((0 ∷ 0 ∷ 0 ∷ []) ∷ [])
   pub chosen : EndsExactly nested_tree silent (with_two 5 9 7 ∷ []) ((2 ∷ 1 ∷ 1 ∷ []) ∷ [])
@@ -327,15 +361,18 @@ abbrev pub limited : Meaning
 limited w guard e outer inner =
     limits_answer (Some (record { operand = o.Outer; comparison = Above; constant = 8 }) ∷ Some (record { operand = o.Inner; comparison = Equal; constant = 7 }) ∷ []) guard e outer inner
 
+-- guard 0 over the automaton, guard 1 on its arrow, under two choices over type 0
 abbrev pub choosy : Drawing
 choosy = record {
   nodes = states (plain ∷ plain ∷ []) ∷ Guard 0 0 ∷ QuantifiedChoice 0 1 ∷ QuantifiedChoice 0 2 ∷ [];
   arrows = record { node = 0; from = 0; to = 1; label = 5; waits = false; guard = Some 1; first = Outer; second = Inner } ∷ [];
 }
 
+-- its tree with the values 7, 9
 abbrev pub choosy_tree : Tree
 choosy_tree = tree_of (type_0_has (7 ∷ 9 ∷ [])) choosy 3
 
+-- both guards have to hold
 pub record Choosy : Type 0 where
   pub both_hold : EndsExactly choosy_tree limited (with_two 5 9 7 ∷ []) ((2 ∷ 1 ∷ 1 ∷ 1 ∷ []) ∷ [])
   pub outer_fails : EndsExactly choosy_tree limited (with_two 5 7 7 ∷ []) []

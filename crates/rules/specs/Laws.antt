@@ -153,17 +153,19 @@ EveryInstanceFinishes =
 
 -- ---- points where readings go astray
 
--- a state without a mark is not finished, one that is marked shallow is, one that is marked deep exactly when its child is
+-- a state without a mark is not finished
 abbrev pub UnmarkedUnfinished : Type 0
 UnmarkedUnfinished =
     (count start : ℕ) (mark : ℕ → Mark) (child : ℕ → Tree) (arrows : List NumberedArrow) (r : Cells)
     → mark (cell r) ≡ Unmarked → finished (automaton count start mark child arrows) r ≡ false
 
+-- one that is marked shallow is, whatever its child does
 abbrev pub ShallowFinished : Type 0
 ShallowFinished =
     (count start : ℕ) (mark : ℕ → Mark) (child : ℕ → Tree) (arrows : List NumberedArrow) (r : Cells)
     → mark (cell r) ≡ Shallow → finished (automaton count start mark child arrows) r ≡ true
 
+-- one that is marked deep is exactly when its child is
 abbrev pub DeepFinished : Type 0
 DeepFinished =
     (count start : ℕ) (mark : ℕ → Mark) (child : ℕ → Tree) (arrows : List NumberedArrow) (r : Cells)
