@@ -2,7 +2,7 @@
 use Rattle.std.specs.Prelude.{ℕ, List, length, take, drop}
 use Rattle.ordered.specs.declared.list.Ordered.{Ordered}
 
--- its elements; a number of used places past the slice's length counts as that length
+-- its elements: what stands in the places in use
 abbrev pub held : {X : Type 0} → Ordered X → List X
 held o = take o.used o.places.now
 

@@ -4,7 +4,7 @@ ghost use Rattle.ordered.specs.Held.{held, room, places_from};
 ghost use Rattle.ordered.specs.Order.{kept, spills, StaysRising, HoldsNothingElse, HoldsExactly, LeavesOutAbove};
 
 use crate::list::Ordered;
-use crate::placing::{count, pick, place};
+use crate::placing::put;
 use crate::rank::Rank;
 
 impl<'a, T: Rank + Copy> Ordered<'a, T> {
@@ -23,7 +23,8 @@ impl<'a, T: Rank + Copy> Ordered<'a, T> {
         ensures lends_these_places { result.places.now ≡ places.old }
         ensures keeps_its_lender { result.places.ghost_name ≡ places.entry.ghost_name }
     {
-        Ordered { places, used: len }
+        let used = len.min(places.len());
+        Ordered { places, used }
     }
 
     /// How many elements it holds.
@@ -31,14 +32,14 @@ impl<'a, T: Rank + Copy> Ordered<'a, T> {
         ensures counts_what_is_held { result ≡ length (held self.now) }
         ensures so_many_first_places_are_what_is_held { take result self.now.places.now ≡ held self.now }
     {
-        count(self.places, self.used)
+        self.used
     }
 
     /// The element at a position from 0, absent past the last.
     pub fn get(&self, position: usize) -> Option<T>
         ensures tells_the_element { result ≡ slice_get (held self.now) position }
     {
-        pick(self.places, self.used, position)
+        self.places[0..self.used].get(position).copied()
     }
 
     /// Puts an element in, unless it is there. Where there is no room for all, the last is left out, and the answer is yes.
@@ -54,9 +55,8 @@ impl<'a, T: Rank + Copy> Ordered<'a, T> {
         ensures holds_exactly_old_and_new_unless_one_is_left_out { HoldsExactly (held self.old) x (held self.new) result }
         ensures leaves_out_only_what_is_above { LeavesOutAbove T.rank (held self.old) x (held self.new) }
     {
-        let before = self.used;
-        let (after, over) = place(self.places, before, x);
-        self.used = after;
+        let (used, over) = put(self.places, self.used, x);
+        self.used = used;
         over
     }
 }

@@ -35,7 +35,7 @@ fn shift<T: Copy>(places: &mut [T], at: usize, end: usize, x: T)
 }
 
 /// Puts x at its place among the first `len`, unless it is there, and gives the new count and whether one was left out.
-fn put<T: Rank + Copy>(places: &mut [T], len: usize, x: T) -> (usize, bool)
+pub(crate) fn put<T: Rank + Copy>(places: &mut [T], len: usize, x: T) -> (usize, bool)
     requires { len ≤ length places.old }
     ensures fits { result.0 ≤ length places.new }
     ensures held { take result.0 places.new ≡ kept T.rank (length places.old) (take len places.old) x }
@@ -51,38 +51,4 @@ fn put<T: Rank + Copy>(places: &mut [T], len: usize, x: T) -> (usize, bool)
             (end, len == room)
         }
     }
-}
-
-/// How many of the first `used` places there are.
-pub(crate) fn count<T>(places: &[T], used: usize) -> usize
-    ensures counts { result ≡ length (take used places.now) }
-    ensures same { take result places.now ≡ take used places.now }
-{
-    used.min(places.len())
-}
-
-/// The element at i of the first `used` places, absent past them.
-pub(crate) fn pick<T: Copy>(places: &[T], used: usize, i: usize) -> Option<T>
-    ensures { result ≡ slice_get (take used places.now) i }
-{
-    if i < count(places, used) {
-        Some(places[i])
-    } else {
-        None
-    }
-}
-
-/// Puts x among the first `used` places, with all that is promised of it.
-pub(crate) fn place<T: Rank + Copy>(places: &mut [T], used: usize, x: T) -> (usize, bool)
-    ensures held { take result.0 places.new ≡ kept T.rank (length places.old) (take used places.old) x }
-    ensures over { result.1 ≡ spills T.rank (length places.old) (take used places.old) x }
-    ensures later { (n : ℕ) → length (take result.0 places.new) ≤ n → drop n places.new ≡ drop n places.old }
-    ensures grows { length (take used places.old) ≤ length (take result.0 places.new) }
-    ensures rises { StaysRising T.rank (take used places.old) (take result.0 places.new) }
-    ensures only { HoldsNothingElse (take used places.old) x (take result.0 places.new) }
-    ensures exactly { HoldsExactly (take used places.old) x (take result.0 places.new) result.1 }
-    ensures above { LeavesOutAbove T.rank (take used places.old) x (take result.0 places.new) }
-{
-    let len = count(places, used);
-    put(places, len, x)
 }
