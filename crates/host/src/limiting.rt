@@ -72,10 +72,7 @@ impl Limits {
         ensures finds { result ≡ slice_index_or self.now.entries guard None }
         ensures ends { 31 < guard → result ≡ None }
     {
-        if guard > 31 {
-            return None;
-        }
-        self.entries[guard as usize]
+        self.entries.get(guard as usize).copied().flatten()
     }
 
     /// Sets the limit of a guard, in place of the one it had. An operand is given by its number (1 outer variable, 2 inner variable,
@@ -120,10 +117,10 @@ impl GuardHost for Limits {
         let Some(limit) = self.entry(guard) else {
             return false;
         };
-        match limit.operand.of(&event, outer, inner) {
-            None => false,
-            Some(value) => limit.comparison.compares(value, limit.constant),
-        }
+        limit
+            .operand
+            .of(&event, outer, inner)
+            .is_some_and(|value| limit.comparison.compares(value, limit.constant))
     }
 
     fn tell(&mut self, event: Event)

@@ -1,4 +1,4 @@
-ghost use Rattle.std.specs.Prelude.{◌≡◌, ℕ, ◌+◌, ◌<◌, ◌≤◌, min, false, List, [], ◌∷◌, map, set, replicate, Some, None, nat_lt, slice_index_or, slice_set};
+ghost use Rattle.std.specs.Prelude.{◌≡◌, ℕ, ◌+◌, ◌<◌, ◌≤◌, min, false, List, [], ◌∷◌, map, set, replicate, Some, None, ◌==◌, nat_lt, slice_index_or, slice_set};
 ghost use Rattle.fault.specs.Asking.{refusal, answer_or, IfRefused, UnlessRefused};
 ghost use Rattle.event.specs.declared.event.Event.{Event};
 ghost use Rattle.host.specs.Meanings.{Told};
@@ -11,16 +11,12 @@ use event::event::Event;
 use fault::fault::{Fault, Question};
 
 impl Tally {
-    /// One more told.
-    fn raised(self) -> Tally
-        ensures raises { result ≡ record { label = self.label; bound = self.bound; told = min (self.told + 1) 65535 } }
-        ensures bounds { self.bound ≤ 65535 }
+    /// Whether an event has its label.
+    fn counts(self, event: Event) -> bool
+        ensures tells { result ≡ (event.label == self.label) }
+        ensures narrow { self.bound ≤ 65535 }
     {
-        Tally {
-            label: self.label,
-            bound: self.bound,
-            told: self.told.saturating_add(1),
-        }
+        self.label == event.label
     }
 }
 
@@ -29,10 +25,10 @@ fn count(entry: &mut Option<Tally>, event: Event)
     ensures counts { entry.new ≡ heard event entry.old }
     ensures answers { (w : List Event) → tally_answer entry.new w ≡ tally_answer entry.old (event ∷ w) }
 {
-    if let Some(tally) = entry {
-        if tally.label == event.label {
-            *tally = tally.raised();
-        }
+    if let Some(tally) = entry
+        && tally.counts(event)
+    {
+        tally.told = tally.told.saturating_add(1);
     }
 }
 
@@ -50,10 +46,7 @@ impl Tallies {
         ensures finds { result ≡ slice_index_or self.now.entries guard None }
         ensures ends { 31 < guard → result ≡ None }
     {
-        if guard > 31 {
-            return None;
-        }
-        self.entries[guard as usize]
+        self.entries.get(guard as usize).copied().flatten()
     }
 
     /// Counts an event in every entry with its label.
@@ -61,8 +54,8 @@ impl Tallies {
         ensures counts { (k : ℕ) → k < 32 → slice_index_or self.new.entries k None ≡ heard event (slice_index_or self.old.entries k None) }
         ensures answers { (k : ℕ) (w : List Event) → k < 32 → tally_answer (slice_index_or self.new.entries k None) w ≡ tally_answer (slice_index_or self.old.entries k None) (event ∷ w) }
     {
-        for i in 0..32 {
-            count(&mut self.entries[i], event);
+        for entry in &mut self.entries {
+            count(entry, event);
         }
     }
 
@@ -95,10 +88,8 @@ impl GuardHost for Tallies {
         ensures answers_for_what_was_told { result ≡ tallies_answer self.now.entries [] guard }
         ensures says_no_above_guard_31 { 31 < guard → result ≡ false }
     {
-        match self.entry(guard) {
-            None => false,
-            Some(tally) => tally.told < tally.bound,
-        }
+        self.entry(guard)
+            .is_some_and(|tally| tally.told < tally.bound)
     }
 
     fn tell(&mut self, event: Event)
