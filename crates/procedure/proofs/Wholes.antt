@@ -1,7 +1,7 @@
 -- The questions of a whole file, as the tables of a draft answer them.
 use Rattle.std.proofs.Common.{◌≡◌, ℕ, zero, suc, ◌+◌, ◌<◌, ◌≤◌, Bool, true, false, cond, ◌&&◌, eqb, ltb, ◌⊎◌, List, [], ◌∷◌, length, get_or, is_some, Some, None, Option, sym, refl, ap, ◌∙◌, inl, inr, ⊎_elim, arith}
 use Rattle.std.proofs.lemmas.List.{get_or_past}
-use Rattle.std.proofs.lemmas.Bool.{cases_lt, cases_Bool, and_parts, ltb-true, lt-ltb, eq-eqb, ne_eqb, or_left, or_from}
+use Rattle.std.proofs.lemmas.Bool.{cases_lt, cases_Bool, and_parts, ltb-true, lt-ltb, eq-eqb, ne_eqb, or_left, or_right, or_from}
 use Rattle.fault.specs.Asking.{refusal, asked_up_to}
 use Rattle.fault.specs.declared.fault.Question.{Question}
 use Rattle.fault.specs.declared.fault.Question.TheVariants.{OneRoot}
@@ -49,6 +49,10 @@ each-yes q n f h = all_asked n (λ k. record { question = q; place = k; yes = f 
 pub one-no : (q : Question) (n i : ℕ) (f : ℕ → Bool) → i < n → ((k : ℕ) → k < i → f k ≡ true) → f i ≡ false → refusal (asked_up_to n (λ k. record { question = q; place = k; yes = f k } ∷ [])) ≡ Some (record { question = q; place = i })
 one-no q n i f lt h z =
     first-asked n i (λ k. record { question = q; place = k; yes = f k } ∷ []) (record { question = q; place = i }) lt (λ k l. rw (h k l) refl) (rw z refl)
+
+-- a node that is a child
+pub parent-attached : (ns : List Node) (k : ℕ) → is_some (parent_of ns k) ≡ true → attached ns k ≡ true
+parent-attached ns k h = or_right (eqb (suc k) (length ns)) (is_some (parent_of ns k)) h
 
 -- every node but the last is a child
 pub root-yes : (d : Drawing) (m : ℕ) → length d.nodes ≡ suc m → ((k : ℕ) → k < m → attached d.nodes k ≡ true) → refusal (root_asks d) ≡ None

@@ -69,8 +69,7 @@ impl Draft {
         if node as usize >= self.node_count {
             return 0;
         }
-        let found = self.nodes[node as usize];
-        found.states()
+        self.nodes[node as usize].states()
     }
 
     /// Question 7: the arrow names an automaton read so far, and two states of it.

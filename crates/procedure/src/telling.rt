@@ -25,21 +25,13 @@ impl Procedure {
     pub fn node(&self, number: usize) -> Option<Node>
         ensures tells_the_node { result ≡ slice_get (drawing self.now).nodes number }
     {
-        if number < self.node_count {
-            Some(self.nodes[number])
-        } else {
-            None
-        }
+        self.nodes[0..self.node_count].get(number).copied()
     }
 
     /// The arrow of a number, absent past the last.
     pub fn arrow(&self, number: usize) -> Option<Arrow>
         ensures tells_the_arrow { result ≡ slice_get (drawing self.now).arrows number }
     {
-        if number < self.arrow_count {
-            Some(self.arrows[number])
-        } else {
-            None
-        }
+        self.arrows[0..self.arrow_count].get(number).copied()
     }
 }

@@ -18,12 +18,10 @@ impl Draft {
         if self.node_count == 0 {
             return Err(Question::OneRoot.at(65535));
         }
-        for k in 0..self.node_count - 1 {
-            if self.parent_of(k).is_none() {
-                return Err(Question::OneRoot.at(k));
-            }
+        match (0..self.node_count - 1).find(|k| self.parent_of(*k).is_none()) {
+            None => Ok(()),
+            Some(k) => Err(Question::OneRoot.at(k)),
         }
-        Ok(())
     }
 
     /// The node of which a node is a child.
@@ -39,8 +37,7 @@ impl Draft {
         requires { (Faithful self.now) × (node < self.now.node_count) }
         ensures { result ≡ binder_at (drawn self.now).nodes node }
     {
-        let here = self.nodes[node];
-        if here.is_binder() { 1 } else { 0 }
+        usize::from(self.nodes[node].is_binder())
     }
 
     /// How many binders stand above a node.
@@ -73,12 +70,10 @@ impl Draft {
         requires { Faithful self.now }
         ensures { MatchResult result (λ _. refusal (binder_asks (drawn self.now)) ≡ None) (λ f. refusal (binder_asks (drawn self.now)) ≡ Some f) }
     {
-        for k in 0..self.node_count {
-            if !self.binder_fits(k) {
-                return Err(Question::BindersFew.at(k));
-            }
+        match (0..self.node_count).find(|k| !self.binder_fits(*k)) {
+            None => Ok(()),
+            Some(k) => Err(Question::BindersFew.at(k)),
         }
-        Ok(())
     }
 
     fn arrow_at(&self, number: usize) -> Arrow
@@ -104,12 +99,10 @@ impl Draft {
         requires { Faithful self.now }
         ensures { MatchResult result (λ _. refusal (scope_asks (drawn self.now)) ≡ None) (λ f. refusal (scope_asks (drawn self.now)) ≡ Some f) }
     {
-        for j in 0..self.arrow_count {
-            if !self.arrow_fits(j) {
-                return Err(Question::VariablesInScope.at(j));
-            }
+        match (0..self.arrow_count).find(|j| !self.arrow_fits(*j)) {
+            None => Ok(()),
+            Some(j) => Err(Question::VariablesInScope.at(j)),
         }
-        Ok(())
     }
 
     /// Questions 8 to 10, of everything that was read.
