@@ -62,10 +62,7 @@ impl Ranges {
         ensures fits { in_range result ≡ true }
         ensures ends { 7 < ty → result ≡ None }
     {
-        if ty > 7 {
-            return None;
-        }
-        self.entries[ty as usize]
+        self.entries.get(ty as usize).copied().flatten()
     }
 
     /// Gives a type the values `first`, the next one, and so on, `count` of them, in place of what it had.
@@ -91,16 +88,10 @@ impl Roster for Ranges {
         ensures counts_the_values { result ≡ count_of (ranges_values self.now.entries ty) }
         ensures knows_no_type_above_7 { 7 < ty → result ≡ None }
     {
-        match self.range(ty) {
-            None => None,
-            Some(range) => Some(range.len()),
-        }
+        self.range(ty).map(|range| range.len())
     }
 
     fn value(&self, ty: u16, position: usize) -> Option<u16> {
-        match self.range(ty) {
-            None => None,
-            Some(range) => range.value(position),
-        }
+        self.range(ty)?.value(position)
     }
 }
