@@ -1,6 +1,7 @@
 pub mod Alone
 pub mod Fitted
 pub mod Laws
+pub mod Shifted
 pub mod Steps
 pub mod Then
 pub mod Used

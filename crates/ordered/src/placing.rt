@@ -5,6 +5,7 @@ ghost use Rattle.ordered.specs.Seeking.{MetAt, ComesAt, shifted_at};
 
 use crate::rank::Rank;
 use std::cmp::Ordering;
+use std::mem;
 
 /// Where x is met, or else where it comes in.
 fn seek<T: Rank>(xs: &[T], x: &T) -> Result<usize, usize>
@@ -27,10 +28,8 @@ fn shift<T: Copy>(places: &mut [T], at: usize, end: usize, x: T)
     ensures leaves { (k : ℕ) (d : T) → end ≤ k → slice_index_or places.new k d ≡ slice_index_or places.old k d }
 {
     let mut hole = x;
-    for i in at..end {
-        let y = places[i];
-        places[i] = hole;
-        hole = y;
+    for place in &mut places[at..end] {
+        mem::swap(place, &mut hole);
     }
 }
 
