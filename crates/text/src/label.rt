@@ -21,17 +21,15 @@ impl fmt::Display for Label {
             first,
             second,
         } = *self;
-        if first.is_absent() {
-            write!(f, "{number}")
-        } else if second.is_absent() {
-            write!(f, "{number}({})", ArgumentText(first))
-        } else {
-            write!(
+        match (first, second) {
+            (Argument::Absent, _) => write!(f, "{number}"),
+            (_, Argument::Absent) => write!(f, "{number}({})", ArgumentText(first)),
+            _ => write!(
                 f,
                 "{number}({},{})",
                 ArgumentText(first),
                 ArgumentText(second)
-            )
+            ),
         }
     }
 }
