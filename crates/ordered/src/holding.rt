@@ -4,7 +4,7 @@ ghost use Rattle.ordered.specs.Held.{held, room, places_from};
 ghost use Rattle.ordered.specs.Order.{kept, spills, StaysRising, HoldsNothingElse, HoldsExactly, LeavesOutAbove};
 
 use crate::list::Ordered;
-use crate::placing::put;
+use crate::placing::place;
 use crate::rank::Rank;
 
 impl<'a, T: Rank + Copy> Ordered<'a, T> {
@@ -55,7 +55,7 @@ impl<'a, T: Rank + Copy> Ordered<'a, T> {
         ensures holds_exactly_old_and_new_unless_one_is_left_out { HoldsExactly (held self.old) x (held self.new) result }
         ensures leaves_out_only_what_is_above { LeavesOutAbove T.rank (held self.old) x (held self.new) }
     {
-        let (used, over) = put(self.places, self.used, x);
+        let (used, over) = place(self.places, self.used, x);
         self.used = used;
         over
     }

@@ -34,7 +34,7 @@ fn shift<T: Copy>(places: &mut [T], at: usize, end: usize, x: T)
 }
 
 /// Puts x at its place among the first `len`, unless it is there, and gives the new count and whether one was left out.
-pub(crate) fn put<T: Rank + Copy>(places: &mut [T], len: usize, x: T) -> (usize, bool)
+fn put<T: Rank + Copy>(places: &mut [T], len: usize, x: T) -> (usize, bool)
     requires { len ≤ length places.old }
     ensures fits { result.0 ≤ length places.new }
     ensures held { take result.0 places.new ≡ kept T.rank (length places.old) (take len places.old) x }
@@ -50,4 +50,20 @@ pub(crate) fn put<T: Rank + Copy>(places: &mut [T], len: usize, x: T) -> (usize,
             (end, len == room)
         }
     }
+}
+
+/// Puts x among the first `len` places, with all that is promised of it.
+pub(crate) fn place<T: Rank + Copy>(places: &mut [T], len: usize, x: T) -> (usize, bool)
+    requires { len ≤ length places.old }
+    ensures fits { result.0 ≤ length places.new }
+    ensures held { take result.0 places.new ≡ kept T.rank (length places.old) (take len places.old) x }
+    ensures over { result.1 ≡ spills T.rank (length places.old) (take len places.old) x }
+    ensures later { (n : ℕ) → length (take result.0 places.new) ≤ n → drop n places.new ≡ drop n places.old }
+    ensures grows { length (take len places.old) ≤ length (take result.0 places.new) }
+    ensures rises { StaysRising T.rank (take len places.old) (take result.0 places.new) }
+    ensures only { HoldsNothingElse (take len places.old) x (take result.0 places.new) }
+    ensures exactly { HoldsExactly (take len places.old) x (take result.0 places.new) result.1 }
+    ensures above { LeavesOutAbove T.rank (take len places.old) x (take result.0 places.new) }
+{
+    put(places, len, x)
 }

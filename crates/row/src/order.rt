@@ -1,9 +1,17 @@
-ghost use Rattle.row.specs.Rows.{row_rank};
+ghost use Rattle.std.specs.Prelude.{◌≡◌};
+ghost use Rattle.row.specs.Rows.{cells_rank, row_rank};
 ghost use Rattle.row.specs.Laws.{row_order};
 
 use crate::row::Row;
 use ordered::rank::Rank;
 use std::cmp::Ordering;
+
+/// By the first cell that differs.
+fn order_of(a: &[u16], b: &[u16]) -> Ordering
+    ensures { result ≡ cells_rank a.now b.now }
+{
+    a.cmp(b)
+}
 
 impl Rank for Row {
     ghost rank = { row_rank };
@@ -15,6 +23,6 @@ impl Rank for Row {
     ghost same = { row_order.same };
 
     fn compare(&self, other: &Row) -> Ordering {
-        self.cells.cmp(&other.cells)
+        order_of(&self.cells, &other.cells)
     }
 }

@@ -12,11 +12,12 @@ answers_after m before e guard outer inner = m before guard e outer inner
 
 -- A chain over a list of events, from the cells `start` to its end, where m is the host's meaning at the start: one successor for each event in
 -- order, and the guards of each event are answered by m for the list of the events before it.
--- begun: over no event it ends where it starts.
--- goes_on: a chain over `before` goes on with the event e to each successor of its end.
 pub data Chain (t : Tree) (m : Meaning) (start : Cells) : List Event → Cells → Type 0 where
+  -- over no event it ends where it starts
   begun : {events : List Event} {end : Cells} → events ≡ [] → end ≡ start → Chain t m start events end
-  goes_on : {events : List Event} {end : Cells} (before : List Event) (e : Event) (r : Cells) → events ≡ before ++ e ∷ [] → Chain t m start before r → Step t (answers_after m before e) e no_variables r end → Chain t m start events end
+  -- a chain over `before` goes on with the event e to each successor of its end
+  goes_on : {events : List Event} {end : Cells} (before : List Event) (e : Event) (r : Cells) → events ≡ before ++ e ∷ []
+      → Chain t m start before r → Step t (answers_after m before e) e no_variables r end → Chain t m start events end
 
 -- r is an end: a chain over the events leads to it from the initial state
 abbrev pub IsEnd : Tree → Meaning → List Event → Cells → Type 0
