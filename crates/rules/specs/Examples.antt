@@ -1,5 +1,5 @@
 -- Small diagrams, with the rows and menus that the rules give them. They stand here because a mistake in a rule shows in them at once.
-use Rattle.std.specs.Prelude.{◌≡◌, ℕ, cond, true, false, ◌↔◌, List, [], ◌∷◌, length, Some, None, ◌==◌}
+use Rattle.std.specs.Prelude.{◌&&◌, ◌≡◌, ℕ, Bool, cond, true, false, ◌↔◌, List, [], ◌∷◌, length, Some, None, ◌==◌}
 use mathlib.Core.List.{Memᴰ}
 use Rattle.notation.specs.Parts.{blank_state}
 use Rattle.notation.specs.declared.node.Mark.TheVariants.{Shallow, Deep}
@@ -11,6 +11,7 @@ use Rattle.notation.specs.declared.arrow.Arrow.{Arrow}
 use Rattle.notation.specs.declared.arrow.Argument.{Argument}
 use Rattle.notation.specs.declared.arrow.Argument.TheVariants.{Absent, Outer, Inner}
 use Rattle.procedure.specs.Drawings.{Drawing}
+use Rattle.procedure.specs.Sound.{sound}
 use Rattle.event.specs.Forms.{InForm}
 use Rattle.event.specs.declared.event.Event.{Event}
 use Rattle.host.specs.Meanings.{Meaning}
@@ -377,3 +378,32 @@ pub record Choosy : Type 0 where
   pub both_hold : EndsExactly choosy_tree limited (with_two 5 9 7 ∷ []) ((2 ∷ 1 ∷ 1 ∷ 1 ∷ []) ∷ [])
   pub outer_fails : EndsExactly choosy_tree limited (with_two 5 7 7 ∷ []) []
   pub inner_fails : EndsExactly choosy_tree limited (with_two 5 9 9 ∷ []) []
+
+-- ---- all of them are drawings that a procedure may hold
+
+-- every drawing of a list has what holds of every procedure
+abbrev pub all_sound : List Drawing → Bool
+all_sound [] = true
+all_sound (d ∷ ds) = sound d.nodes d.arrows && all_sound ds
+
+-- so have the examples
+abbrev pub ExamplesAreSound : Type 0
+ExamplesAreSound =
+    all_sound (
+    axle
+    ∷ two_sides []
+    ∷ two_sides (5 ∷ [])
+    ∷ uneven_sides
+    ∷ handing_over
+    ∷ either_side
+    ∷ guarded_steps
+    ∷ guarded_again
+    ∷ guarded_way
+    ∷ wheels
+    ∷ waiting
+    ∷ waiting_alone
+    ∷ shift
+    ∷ fork
+    ∷ nested
+    ∷ choosy ∷ []
+    ) ≡ true

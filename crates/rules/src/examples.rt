@@ -1,4 +1,4 @@
-ghost use Rattle.rules.specs.Examples.{AxleBegins, AxleSelected, AxleStored, SidesApart, SidesTogether, UnevenSides, HandingOver, EitherSide, GuardedSteps, GuardedAgain, GuardedWay, Wheels, Waiting, WaitingAlone, Shift, Fork, Nested, Choosy};
+ghost use Rattle.rules.specs.Examples.{AxleBegins, AxleSelected, AxleStored, SidesApart, SidesTogether, UnevenSides, HandingOver, EitherSide, GuardedSteps, GuardedAgain, GuardedWay, Wheels, Waiting, WaitingAlone, Shift, Fork, Nested, Choosy, ExamplesAreSound};
 
 /// Small diagrams have the rows and menus that are written beside them, and no others.
 pub fn examples_hold()
@@ -20,4 +20,5 @@ pub fn examples_hold()
     ensures two_arrows_give_one_row_and_one_event_two { Fork }
     ensures nested_binders_give_outer_and_inner { Nested }
     ensures guards_look_at_the_variables { Choosy }
+    ensures procedures_may_hold_them { ExamplesAreSound }
 {}

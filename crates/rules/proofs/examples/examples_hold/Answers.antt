@@ -79,3 +79,7 @@ returns-clause-two_sides_begin_each_in_its_state c = ends-exactly _ _ _ _ refl
 pub returns-clause-guards_look_at_the_variables : goal.returns-clause-guards_look_at_the_variables
 unfolding tree_of join placed over for_each past_zero if_some one_if targets arranged
 returns-clause-guards_look_at_the_variables c = record { both_hold = ends-exactly _ _ _ _ refl; outer_fails = ends-exactly _ _ _ _ refl; inner_fails = ends-exactly _ _ _ _ refl }
+
+pub returns-clause-procedures_may_hold_them : goal.returns-clause-procedures_may_hold_them
+unfolding sound
+returns-clause-procedures_may_hold_them c = refl
