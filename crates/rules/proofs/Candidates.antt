@@ -27,7 +27,8 @@ use Rattle.rules.specs.Moves.{moves}
 use Rattle.rules.specs.Ends.{ends}
 use Rattle.rules.specs.Candidates.{Carried, event_with, event_of, under_each, in_each, candidates, has_one, some_moves, passing, menu}
 use Rattle.rules.proofs.Fits.{fits}
-use Rattle.rules.proofs.Ends.{in-arranged, out-arranged, listed-ends}
+use Rattle.rules.proofs.Ends.{in-arranged, out-arranged, rising-arranged, listed-ends}
+use Rattle.ordered.specs.Order.{Rising}
 
 value-in : (xs : List ℕ) (k x : ℕ) → slice_get xs k ≡ Some x → Memᴰ x xs
 value-in [] k x e = let z : ◌≡◌ {A = ℕ} 0 1 = cc in absurd (omega arith)
@@ -181,14 +182,17 @@ module _ (t : Tree) (g : Guards) (e : Event) where
       at true is below k = let o = one-had (moves t g e no_variables x) is in (x, Memᴰ.head refl, (o.0, (fits t g e no_variables).sound x o.0 o.1))
       at false is below k = let o = below k in (o.0, Memᴰ.tail o.1, o.2)
 
-pub menu-exact : (t : Tree) (m : Meaning) (events : List Event) (e : Event) → Sound t → InForm e → Memᴰ e (menu t m events) ↔ GoesOn t m events e
-menu-exact t m events e s f = (to, fro)
-  where
-    to : Memᴰ e (menu t m events) → GoesOn t m events e
-    to i =
-        let o = moved-some t (answers_after m events e) e (ends t m events) (out-passing _ e (candidates t no_variables) (out-arranged event_rank event_order e _ i)) in
-        (o.2.0, (o.0, (listed-ends t m events o.0).0 o.1, o.2.1))
+pub menu-goes-on : (t : Tree) (m : Meaning) (events : List Event) (e : Event) → Memᴰ e (menu t m events) → GoesOn t m events e
+menu-goes-on t m events e i =
+    let o = moved-some t (answers_after m events e) e (ends t m events) (out-passing _ e (candidates t no_variables) (out-arranged event_rank event_order e _ i)) in
+    (o.2.0, (o.0, (listed-ends t m events o.0).0 o.1, o.2.1))
 
+pub menu-rises : (t : Tree) (m : Meaning) (events : List Event) → Rising event_rank (menu t m events)
+menu-rises t m events = rising-arranged event_rank event_order _
+
+pub menu-exact : (t : Tree) (m : Meaning) (events : List Event) (e : Event) → Sound t → InForm e → Memᴰ e (menu t m events) ↔ GoesOn t m events e
+menu-exact t m events e s f = (menu-goes-on t m events e, fro)
+  where
     fro : GoesOn t m events e → Memᴰ e (menu t m events)
     fro (r', n) =
         in-arranged event_rank event_order e _

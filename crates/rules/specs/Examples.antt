@@ -2,7 +2,8 @@
 use Rattle.std.specs.Prelude.{◌&&◌, ◌≡◌, ℕ, Bool, cond, true, false, ◌↔◌, List, [], ◌∷◌, length, Some, None, ◌==◌}
 use mathlib.Core.List.{Memᴰ}
 use Rattle.notation.specs.Parts.{blank_state}
-use Rattle.notation.specs.declared.node.Mark.TheVariants.{Shallow, Deep}
+use Rattle.notation.specs.declared.node.Mark.{Mark}
+use Rattle.notation.specs.declared.node.Mark.TheVariants.{Unmarked, Shallow, Deep}
 use Rattle.notation.specs.declared.node.State.{State}
 use Rattle.notation.specs.declared.node.Labels.{Labels}
 use Rattle.notation.specs.declared.node.Node.{Node}
@@ -42,9 +43,9 @@ plain = blank_state
 abbrev pub final : State
 final = record { mark = Shallow; child = None }
 
--- a state with a child, final when the child is finished
-abbrev pub holding : ℕ → State
-holding k = record { mark = Deep; child = Some k }
+-- a state with a mark and a child
+abbrev pub holding : Mark → ℕ → State
+holding m k = record { mark = m; child = Some k }
 
 -- an arrow of a node, from one state to another, on a label with a first argument or none
 abbrev pub arrow : ℕ → ℕ → ℕ → ℕ → Argument → Arrow
@@ -162,11 +163,11 @@ UnevenSides = EndsExactly (tree_of (type_0_has []) uneven_sides 2) silent [] ((1
 
 -- ---- a first part that may go on when it is finished, and a second part that takes the same event
 
--- one step and then a loop on label 6; the second part takes 6 once and goes back on 3
+-- one step and then a loop on label 6; the second part takes 6 once
 abbrev pub handing_over : Drawing
 handing_over = record {
   nodes = states (plain ∷ final ∷ []) ∷ states (plain ∷ plain ∷ []) ∷ Sequence 0 1 ∷ [];
-  arrows = arrow 0 0 1 6 Absent ∷ arrow 0 1 1 6 Absent ∷ arrow 1 0 1 6 Absent ∷ arrow 1 1 0 3 Absent ∷ [];
+  arrows = arrow 0 0 1 6 Absent ∷ arrow 0 1 1 6 Absent ∷ arrow 1 0 1 6 Absent ∷ [];
 }
 
 -- its tree; no type is named
@@ -178,30 +179,51 @@ pub record HandingOver : Type 0 where
   pub once : EndsExactly handing_over_tree silent (bare 6 ∷ []) ((0 ∷ 1 ∷ []) ∷ [])
   pub twice : EndsExactly handing_over_tree silent (bare 6 ∷ bare 6 ∷ []) ((0 ∷ 1 ∷ []) ∷ (1 ∷ 1 ∷ []) ∷ [])
   pub unfinished : finished handing_over_tree (1 ∷ 1 ∷ []) ≡ false
-  pub second_goes_on : EndsExactly handing_over_tree silent (bare 6 ∷ bare 6 ∷ bare 3 ∷ []) ((1 ∷ 0 ∷ []) ∷ [])
 
--- ---- a choice between two sides that take the same event, of which only the right one is final afterwards; a later event decides
+-- the same with a way back on 3 in the second part
+abbrev pub handing_on : Drawing
+handing_on = record {
+  nodes = handing_over.nodes;
+  arrows = arrow 0 0 1 6 Absent ∷ arrow 0 1 1 6 Absent ∷ arrow 1 0 1 6 Absent ∷ arrow 1 1 0 3 Absent ∷ [];
+}
 
--- each side takes 7, and then the left one 3, the right one 4
+-- only the second part takes 3
+abbrev pub HandingOn : Type 0
+HandingOn = EndsExactly (tree_of (type_0_has []) handing_on 2) silent (bare 6 ∷ bare 6 ∷ bare 3 ∷ []) ((1 ∷ 0 ∷ []) ∷ [])
+
+-- ---- a choice between two sides that take the same event
+
+-- each side takes 7
 abbrev pub either_side : Drawing
 either_side = record {
+  nodes = states (plain ∷ plain ∷ []) ∷ states (plain ∷ plain ∷ []) ∷ Choice 0 1 ∷ [];
+  arrows = arrow 0 0 1 7 Absent ∷ arrow 1 0 1 7 Absent ∷ [];
+}
+
+-- both sides are kept
+pub record EitherSide : Type 0 where
+  pub begins : EndsExactly (tree_of (type_0_has []) either_side 2) silent [] ((0 ∷ 0 ∷ []) ∷ [])
+  pub once : EndsExactly (tree_of (type_0_has []) either_side 2) silent (bare 7 ∷ []) ((1 ∷ 1 ∷ []) ∷ (2 ∷ 1 ∷ []) ∷ [])
+
+-- the same with a way back on 3 on the left, on 4 on the right, where the state after 7 is final
+abbrev pub deciding : Drawing
+deciding = record {
   nodes = states (plain ∷ plain ∷ []) ∷ states (plain ∷ final ∷ []) ∷ Choice 0 1 ∷ [];
   arrows = arrow 0 0 1 7 Absent ∷ arrow 0 1 0 3 Absent ∷ arrow 1 0 1 7 Absent ∷ arrow 1 1 0 4 Absent ∷ [];
 }
 
 -- its tree; no type is named
-abbrev pub either_tree : Tree
-either_tree = tree_of (type_0_has []) either_side 2
+abbrev pub deciding_tree : Tree
+deciding_tree = tree_of (type_0_has []) deciding 2
 
 -- both sides are kept until 3 or 4 comes
-pub record EitherSide : Type 0 where
-  pub begins : EndsExactly either_tree silent [] ((0 ∷ 0 ∷ []) ∷ [])
-  pub unbegun : finished either_tree (0 ∷ 0 ∷ []) ≡ false
-  pub once : EndsExactly either_tree silent (bare 7 ∷ []) ((1 ∷ 1 ∷ []) ∷ (2 ∷ 1 ∷ []) ∷ [])
-  pub left : finished either_tree (1 ∷ 1 ∷ []) ≡ false
-  pub right : finished either_tree (2 ∷ 1 ∷ []) ≡ true
-  pub left_decided : EndsExactly either_tree silent (bare 7 ∷ bare 3 ∷ []) ((1 ∷ 0 ∷ []) ∷ [])
-  pub right_decided : EndsExactly either_tree silent (bare 7 ∷ bare 4 ∷ []) ((2 ∷ 0 ∷ []) ∷ [])
+pub record Deciding : Type 0 where
+  pub unbegun : finished deciding_tree (0 ∷ 0 ∷ []) ≡ false
+  pub both : EndsExactly deciding_tree silent (bare 7 ∷ []) ((1 ∷ 1 ∷ []) ∷ (2 ∷ 1 ∷ []) ∷ [])
+  pub left : finished deciding_tree (1 ∷ 1 ∷ []) ≡ false
+  pub right : finished deciding_tree (2 ∷ 1 ∷ []) ≡ true
+  pub left_decided : EndsExactly deciding_tree silent (bare 7 ∷ bare 3 ∷ []) ((1 ∷ 0 ∷ []) ∷ [])
+  pub right_decided : EndsExactly deciding_tree silent (bare 7 ∷ bare 4 ∷ []) ((2 ∷ 0 ∷ []) ∷ [])
 
 -- ---- a guard that holds at the first event only, and is asked at no other
 
@@ -267,25 +289,39 @@ pub record Wheels : Type 0 where
 
 -- ---- an arrow that waits for the child of its state, one that leads back to that state, and one that waits where there is no child
 
--- state 0 holds a child of one step on 11; 12 waits for it, 13 does not
+-- state 0 holds a child of one step on 11; 12 waits for it
 abbrev pub waiting : Drawing
 waiting = record {
-  nodes = states (plain ∷ final ∷ []) ∷ states (holding 0 ∷ plain ∷ []) ∷ [];
-  arrows = arrow 0 0 1 11 Absent ∷ waiting_arrow 1 0 1 12 ∷ arrow 1 0 0 13 Absent ∷ [];
+  nodes = states (plain ∷ final ∷ []) ∷ states (holding Unmarked 0 ∷ plain ∷ []) ∷ [];
+  arrows = arrow 0 0 1 11 Absent ∷ waiting_arrow 1 0 1 12 ∷ [];
 }
 
 -- its tree; no type is named
 abbrev pub waiting_tree : Tree
 waiting_tree = tree_of (type_0_has []) waiting 1
 
--- 12 comes only after 11; 13 leads back to state 0, where the child begins anew
+-- 12 comes only after 11
 pub record Waiting : Type 0 where
   pub too_early : EndsExactly waiting_tree silent (bare 12 ∷ []) []
-  pub unfinished : finished waiting_tree (0 ∷ 0 ∷ []) ≡ false
   pub child_moved : EndsExactly waiting_tree silent (bare 11 ∷ []) ((0 ∷ 1 ∷ []) ∷ [])
-  pub done : finished waiting_tree (0 ∷ 1 ∷ []) ≡ true
   pub left : EndsExactly waiting_tree silent (bare 11 ∷ bare 12 ∷ []) ((1 ∷ 0 ∷ []) ∷ [])
-  pub anew : EndsExactly waiting_tree silent (bare 11 ∷ bare 13 ∷ []) ((0 ∷ 0 ∷ []) ∷ [])
+
+-- the same with state 0 deep final, and an arrow on 13 that does not wait and leads back to it
+abbrev pub coming_back : Drawing
+coming_back = record {
+  nodes = states (plain ∷ final ∷ []) ∷ states (holding Deep 0 ∷ plain ∷ []) ∷ [];
+  arrows = arrow 0 0 1 11 Absent ∷ waiting_arrow 1 0 1 12 ∷ arrow 1 0 0 13 Absent ∷ [];
+}
+
+-- its tree; no type is named
+abbrev pub coming_back_tree : Tree
+coming_back_tree = tree_of (type_0_has []) coming_back 1
+
+-- finished with the child; 13 begins it anew
+pub record ComingBack : Type 0 where
+  pub unfinished : finished coming_back_tree (0 ∷ 0 ∷ []) ≡ false
+  pub done : finished coming_back_tree (0 ∷ 1 ∷ []) ≡ true
+  pub anew : EndsExactly coming_back_tree silent (bare 11 ∷ bare 13 ∷ []) ((0 ∷ 0 ∷ []) ∷ [])
 
 -- a waiting arrow out of a state without a child
 abbrev pub waiting_alone : Drawing
@@ -395,12 +431,15 @@ ExamplesAreSound =
     ∷ two_sides (5 ∷ [])
     ∷ uneven_sides
     ∷ handing_over
+    ∷ handing_on
     ∷ either_side
+    ∷ deciding
     ∷ guarded_steps
     ∷ guarded_again
     ∷ guarded_way
     ∷ wheels
     ∷ waiting
+    ∷ coming_back
     ∷ waiting_alone
     ∷ shift
     ∷ fork

@@ -4,7 +4,7 @@ use Rattle.std.specs.List.{slice_get}
 use mathlib.Core.List.{Memᴰ}
 use Rattle.ordered.specs.Order.{Rising}
 use Rattle.row.specs.Rows.{cells_rank}
-use Rattle.event.specs.Forms.{InForm}
+use Rattle.event.specs.Forms.{InForm, event_rank}
 use Rattle.event.specs.declared.event.Event.{Event}
 use Rattle.host.specs.Meanings.{Meaning}
 use Rattle.notation.specs.Parts.{children_of}
@@ -230,6 +230,14 @@ CarriedIsCandidate = (t : Tree) (e : Event) (v : Variables) → Sound t → InFo
 -- an event in form is on the computed menu exactly when some chain goes on with it
 abbrev pub MenuIsExact : Type 0
 MenuIsExact = (t : Tree) (m : Meaning) (events : List Event) (e : Event) → Sound t → InForm e → Memᴰ e (menu t m events) ↔ GoesOn t m events e
+
+-- whatever is on it, in form or not, some chain goes on with
+abbrev pub MenuGoesOn : Type 0
+MenuGoesOn = (t : Tree) (m : Meaning) (events : List Event) (e : Event) → Memᴰ e (menu t m events) → GoesOn t m events e
+
+-- it rises, so each event stands there once
+abbrev pub MenuRises : Type 0
+MenuRises = (t : Tree) (m : Meaning) (events : List Event) → Rising event_rank (menu t m events)
 
 -- ---- the trees of a procedure
 

@@ -2,7 +2,7 @@ ghost use Rattle.rules.specs.Laws.{ListedIsDerived, DerivedIsListed, ChainsBegin
 ghost use Rattle.rules.specs.Laws.{InitialHasWidth, SuccessorHasWidth, EndHasWidth, ProceduresAreSound, InitialInRange, SuccessorInRange, EndInRange};
 ghost use Rattle.rules.specs.Laws.{BothSidesMove, OneSideMoves, AllInstancesMove, OneInstanceMovesAlone, NoInstanceNoMove, BothSidesFinish, EveryInstanceFinishes};
 ghost use Rattle.rules.specs.Laws.{UnmarkedUnfinished, ShallowFinished, DeepFinished, SequenceFinished, GuardAskedOnce, GuardFinished, ClosureStarts, ClosureRestartsOnlyFinished, FinishedClosureRestarts, ElementaryIsNotWaitedFor, ChoiceFinished, QuantifiedChoiceFinished};
-ghost use Rattle.rules.specs.Laws.{SuccessorIsCarried, CarriedIsCandidate, MenuIsExact, TreesUnfold, ChildrenAreBelow};
+ghost use Rattle.rules.specs.Laws.{SuccessorIsCarried, CarriedIsCandidate, MenuIsExact, MenuGoesOn, MenuRises, TreesUnfold, ChildrenAreBelow};
 
 /// The computed moves are exactly those that the rules derive.
 pub fn moves_are_adequate()
@@ -75,6 +75,8 @@ pub fn menus_are_complete()
     ensures a_successors_event_is_carried { SuccessorIsCarried }
     ensures a_carried_event_is_a_candidate { CarriedIsCandidate }
     ensures the_computed_menu_is_exact { MenuIsExact }
+    ensures the_computed_menu_holds_nothing_else { MenuGoesOn }
+    ensures the_computed_menu_rises { MenuRises }
 {}
 
 /// A node's tree is made of its children's trees.

@@ -30,11 +30,11 @@ returns-clause-two_sides_move_together c = record { once = ends-exactly _ _ _ _ 
 
 pub returns-clause-a_first_part_goes_on_or_hands_over : goal.returns-clause-a_first_part_goes_on_or_hands_over
 unfolding tree_of join placed over for_each past_zero if_some one_if targets arranged
-returns-clause-a_first_part_goes_on_or_hands_over c = record { once = ends-exactly _ _ _ _ refl; twice = ends-exactly _ _ _ _ refl; unfinished = refl; second_goes_on = ends-exactly _ _ _ _ refl }
+returns-clause-a_first_part_goes_on_or_hands_over c = record { once = ends-exactly _ _ _ _ refl; twice = ends-exactly _ _ _ _ refl; unfinished = refl }
 
 pub returns-clause-a_choice_keeps_both_sides : goal.returns-clause-a_choice_keeps_both_sides
 unfolding tree_of join placed over for_each past_zero if_some one_if targets arranged
-returns-clause-a_choice_keeps_both_sides c = record { begins = ends-exactly _ _ _ _ refl; unbegun = refl; once = ends-exactly _ _ _ _ refl; left = refl; right = refl; left_decided = ends-exactly _ _ _ _ refl; right_decided = ends-exactly _ _ _ _ refl }
+returns-clause-a_choice_keeps_both_sides c = record { begins = ends-exactly _ _ _ _ refl; once = ends-exactly _ _ _ _ refl }
 
 pub returns-clause-a_guard_is_asked_at_the_first_event : goal.returns-clause-a_guard_is_asked_at_the_first_event
 unfolding tree_of join placed over for_each past_zero if_some one_if targets arranged
@@ -50,7 +50,7 @@ returns-clause-all_wheels_are_stored_at_once c = record { none_read = ends-exact
 
 pub returns-clause-an_arrow_waits_for_a_child : goal.returns-clause-an_arrow_waits_for_a_child
 unfolding tree_of join placed over for_each past_zero if_some one_if targets arranged
-returns-clause-an_arrow_waits_for_a_child c = record { too_early = ends-exactly _ _ _ _ refl; unfinished = refl; child_moved = ends-exactly _ _ _ _ refl; done = refl; left = ends-exactly _ _ _ _ refl; anew = ends-exactly _ _ _ _ refl }
+returns-clause-an_arrow_waits_for_a_child c = record { too_early = ends-exactly _ _ _ _ refl; child_moved = ends-exactly _ _ _ _ refl; left = ends-exactly _ _ _ _ refl }
 
 pub returns-clause-an_arrow_waits_for_no_elementary_state : goal.returns-clause-an_arrow_waits_for_no_elementary_state
 unfolding tree_of join placed over for_each past_zero if_some one_if targets arranged
@@ -83,3 +83,15 @@ returns-clause-guards_look_at_the_variables c = record { both_hold = ends-exactl
 pub returns-clause-procedures_may_hold_them : goal.returns-clause-procedures_may_hold_them
 unfolding sound
 returns-clause-procedures_may_hold_them c = refl
+
+pub returns-clause-a_second_part_goes_on : goal.returns-clause-a_second_part_goes_on
+unfolding tree_of join placed over for_each past_zero if_some one_if targets arranged
+returns-clause-a_second_part_goes_on c = ends-exactly _ _ _ _ refl
+
+pub returns-clause-a_later_event_decides : goal.returns-clause-a_later_event_decides
+unfolding tree_of join placed over for_each past_zero if_some one_if targets arranged
+returns-clause-a_later_event_decides c = record { unbegun = refl; both = ends-exactly _ _ _ _ refl; left = refl; right = refl; left_decided = ends-exactly _ _ _ _ refl; right_decided = ends-exactly _ _ _ _ refl }
+
+pub returns-clause-a_child_begins_anew : goal.returns-clause-a_child_begins_anew
+unfolding tree_of join placed over for_each past_zero if_some one_if targets arranged
+returns-clause-a_child_begins_anew c = record { unfinished = refl; done = refl; anew = ends-exactly _ _ _ _ refl }
