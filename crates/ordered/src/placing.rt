@@ -52,18 +52,26 @@ fn put<T: Rank + Copy>(places: &mut [T], len: usize, x: T) -> (usize, bool)
     }
 }
 
-/// Puts x among the first `len` places, with all that is promised of it.
-pub(crate) fn place<T: Rank + Copy>(places: &mut [T], len: usize, x: T) -> (usize, bool)
-    requires { len ≤ length places.old }
-    ensures fits { result.0 ≤ length places.new }
-    ensures held { take result.0 places.new ≡ kept T.rank (length places.old) (take len places.old) x }
-    ensures over { result.1 ≡ spills T.rank (length places.old) (take len places.old) x }
-    ensures later { (n : ℕ) → length (take result.0 places.new) ≤ n → drop n places.new ≡ drop n places.old }
-    ensures grows { length (take len places.old) ≤ length (take result.0 places.new) }
-    ensures rises { StaysRising T.rank (take len places.old) (take result.0 places.new) }
-    ensures only { HoldsNothingElse (take len places.old) x (take result.0 places.new) }
-    ensures exactly { HoldsExactly (take len places.old) x (take result.0 places.new) result.1 }
-    ensures above { LeavesOutAbove T.rank (take len places.old) x (take result.0 places.new) }
+/// How many of the first `used` places there are.
+fn count<T>(places: &[T], used: usize) -> usize
+    ensures counts { result ≡ length (take used places.now) }
+    ensures same { take result places.now ≡ take used places.now }
 {
+    used.min(places.len())
+}
+
+/// Puts x among the first `used` places, with all that is promised of it.
+pub(crate) fn place<T: Rank + Copy>(places: &mut [T], used: usize, x: T) -> (usize, bool)
+    ensures fits { result.0 ≤ length places.new }
+    ensures held { take result.0 places.new ≡ kept T.rank (length places.old) (take used places.old) x }
+    ensures over { result.1 ≡ spills T.rank (length places.old) (take used places.old) x }
+    ensures later { (n : ℕ) → length (take result.0 places.new) ≤ n → drop n places.new ≡ drop n places.old }
+    ensures grows { length (take used places.old) ≤ length (take result.0 places.new) }
+    ensures rises { StaysRising T.rank (take used places.old) (take result.0 places.new) }
+    ensures only { HoldsNothingElse (take used places.old) x (take result.0 places.new) }
+    ensures exactly { HoldsExactly (take used places.old) x (take result.0 places.new) result.1 }
+    ensures above { LeavesOutAbove T.rank (take used places.old) x (take result.0 places.new) }
+{
+    let len = count(places, used);
     put(places, len, x)
 }

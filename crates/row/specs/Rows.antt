@@ -1,5 +1,5 @@
 -- The order of rows.
-use Rattle.std.specs.Prelude.{ℕ, List, [], ◌∷◌}
+use Rattle.std.specs.Prelude.{◌≡◌, ℕ, ◌<◌, List, [], ◌∷◌, slice_index}
 use Rattle.std.specs.declared.cmp.Ordering.TheVariants.{Less, Equal, Greater}
 use Rattle.std.specs.declared.cmp.Ordering.{Ordering}
 use Rattle.std.specs.Ordering.{ordering_then, nat_cmp}
@@ -15,3 +15,7 @@ cells_rank (x ∷ xs) (y ∷ ys) = ordering_then (nat_cmp x y) (cells_rank xs ys
 -- rows are ordered by the first cell that differs
 abbrev pub row_rank : Row → Row → Ordering
 row_rank a b = cells_rank a.cells b.cells
+
+-- two rows have the same first n cells
+abbrev pub AlikeBelow : ℕ → Row → Row → Type 0
+AlikeBelow n a b = (k : ℕ) → k < n → slice_index a.cells k ≡ slice_index b.cells k

@@ -1,6 +1,6 @@
-use Rattle.std.proofs.Common.{arith, length}
-use Rattle.std.proofs.lemmas.List.{length-take-le}
-use Rattle.ordered.specs.Order.{Order}
+use Rattle.std.proofs.Common.{◌≡◌, List, length, take, ap, ◌∙◌, arith}
+use Rattle.std.proofs.lemmas.List.{length-take, length-take-le}
+use Rattle.ordered.specs.Order.{Order, kept, spills}
 use Rattle.ordered.proofs.Laws.{grows, stays-rising, nothing-else, holds-exactly, leaves-out-above}
 use Rattle.ordered.proofs.Used.{drop-on}
 use Rattle.ordered.proofs.placing.place.Given.{Over}
@@ -9,24 +9,25 @@ use Rattle.ordered.proofs.placing.place.Goals as goal
 order : (g : Over) → Order g.T.Rank.rank
 order g = record { flip = g.met.T.Rank.flip; chain = g.met.T.Rank.chain; same = g.met.T.Rank.same }
 
-pub returns-clause-later : goal.returns-clause-later
-returns-clause-later g c =
-    let long = length-take-le c.put.result.0 c.put.new.places c.put.ensures.fits in
-    λ n le. drop-on c.put.result.0 n c.put.new.places c.args.places.now (omega arith) c.put.ensures.later
-
-pub returns-clause-grows : goal.returns-clause-grows
-returns-clause-grows g c =
-    let long = length-take-le c.args.len c.args.places.now c.requires in
-    rw c.put.ensures.held (grows g.T.Rank.rank (length c.args.places.now) _ c.args.x (omega arith))
-
-pub returns-clause-rises : goal.returns-clause-rises
-returns-clause-rises g c = stays-rising g.T.Rank.rank (order g) (length c.args.places.now) _ c.args.x _ c.put.ensures.held
-
-pub returns-clause-only : goal.returns-clause-only
-returns-clause-only g c = nothing-else g.T.Rank.rank (order g) (length c.args.places.now) _ c.args.x _ c.put.ensures.held
-
-pub returns-clause-exactly : goal.returns-clause-exactly
-returns-clause-exactly g c = holds-exactly g.T.Rank.rank (order g) (length c.args.places.now) _ c.args.x _ c.put.ensures.held c.put.result.1 c.put.ensures.over
-
-pub returns-clause-above : goal.returns-clause-above
-returns-clause-above g c = leaves-out-above g.T.Rank.rank (order g) (length c.args.places.now) _ c.args.x _ c.put.ensures.held
+pub returns : goal.returns
+returns g c =
+    let rank = g.T.Rank.rank in
+    let s : List g.row.T.Denot = c.args.places.now in
+    let t : List g.row.T.Denot = c.put.new.places in
+    let xs : List g.row.T.Denot = take c.args.used s in
+    let x = c.args.x in
+    let n = c.put.result.0 in
+    let is : take n t ≡ kept rank (length s) xs x = c.put.ensures.held ∙ ap (λ (ys : List g.row.T.Denot). kept rank (length s) ys x) c.count-len.ensures.same in
+    let is-over : c.put.result.1 ≡ spills rank (length s) xs x = c.put.ensures.over ∙ ap (λ (ys : List g.row.T.Denot). spills rank (length s) ys x) c.count-len.ensures.same in
+    let long = length-take-le n t c.put.ensures.fits in
+    record {
+      fits = c.put.ensures.fits;
+      held = is;
+      over = is-over;
+      later = λ k le. drop-on n k t s (omega arith) c.put.ensures.later;
+      grows = rw is (grows rank (length s) xs x (omega (arith, length-take c.args.used s)));
+      rises = stays-rising rank (order g) (length s) xs x (take n t) is;
+      only = nothing-else rank (order g) (length s) xs x (take n t) is;
+      exactly = holds-exactly rank (order g) (length s) xs x (take n t) is c.put.result.1 is-over;
+      above = leaves-out-above rank (order g) (length s) xs x (take n t) is;
+    }
