@@ -1,4 +1,4 @@
-ghost use Rattle.std.specs.Prelude.{◌≡◌, ℕ, ◌+◌, ◌<◌, ◌≤◌, min, false, List, [], ◌∷◌, map, set, replicate, Some, None, ◌==◌, nat_lt, slice_index_or, slice_set};
+ghost use Rattle.std.specs.Prelude.{◌≡◌, ℕ, ◌<◌, ◌≤◌, false, List, [], ◌∷◌, map, set, replicate, Some, None, ◌==◌, nat_lt, slice_index_or, slice_set};
 ghost use Rattle.fault.specs.Asking.{refusal, answer_or, IfRefused, UnlessRefused};
 ghost use Rattle.event.specs.declared.event.Event.{Event};
 ghost use Rattle.host.specs.Meanings.{Told};

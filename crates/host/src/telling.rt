@@ -1,4 +1,3 @@
-ghost use Rattle.std.specs.Prelude.{◌≡◌, ◌≤◌, length, take};
 ghost use Rattle.host.specs.Meanings.{Told};
 
 use crate::host::GuardHost;

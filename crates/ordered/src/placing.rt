@@ -1,5 +1,4 @@
 ghost use Rattle.std.specs.Prelude.{◌≡◌, ℕ, ◌<◌, ◌≤◌, length, take, drop, MatchResult, slice_index_or};
-ghost use Rattle.std.specs.List.{slice_get};
 ghost use Rattle.ordered.specs.Order.{kept, spills, StaysRising, HoldsNothingElse, HoldsExactly, LeavesOutAbove};
 ghost use Rattle.ordered.specs.Seeking.{MetAt, ComesAt, shifted_at};
 

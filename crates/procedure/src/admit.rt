@@ -1,4 +1,4 @@
-ghost use Rattle.std.specs.Prelude.{◌≡◌, ℕ, ◌+◌, ◌*◌, ◌^◌, ◌<◌, ◌≤◌, true, [], ◌∷◌, ◌++◌, length, Some, None, MatchResult, slice_index_or};
+ghost use Rattle.std.specs.Prelude.{◌≡◌, ◌+◌, ◌<◌, true, Some, None, MatchResult, slice_index_or};
 ghost use Rattle.fault.specs.Asking.{refusal};
 ghost use Rattle.notation.specs.Parts.{states_of, blank_node};
 ghost use Rattle.record.specs.declared.entry.Entry.TheVariants.{Node as of_node, Arrow as of-arrow};

@@ -1,4 +1,4 @@
-ghost use Rattle.std.specs.Prelude.{◌≡◌, ℕ, ◌+◌, ◌*◌, ◌^◌, ◌<◌, ◌≤◌, length, Some, None, MatchResult};
+ghost use Rattle.std.specs.Prelude.{◌≡◌, ◌+◌, ◌<◌, ◌≤◌, length, Some, None, MatchResult};
 ghost use Rattle.fault.specs.Asking.{refusal};
 ghost use Rattle.record.specs.Bytes.{field_at};
 ghost use Rattle.procedure.specs.Drawings.{grown};

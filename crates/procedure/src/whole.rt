@@ -1,4 +1,4 @@
-ghost use Rattle.std.specs.Prelude.{◌≡◌, ℕ, ◌+◌, ◌<◌, ◌≤◌, length, Some, None, MatchResult, slice_index_or};
+ghost use Rattle.std.specs.Prelude.{◌≡◌, ◌+◌, ◌<◌, Some, None, MatchResult, slice_index_or};
 ghost use Rattle.fault.specs.Asking.{refusal};
 ghost use Rattle.notation.specs.Parts.{blank_arrow};
 ghost use Rattle.procedure.specs.Drafts.{drawn, Faithful};

@@ -1,4 +1,4 @@
-ghost use Rattle.std.specs.Prelude.{◌≡◌, ℕ, ◌+◌, ◌*◌, ◌^◌, ◌<◌, ◌≤◌, true, false, ◌&&◌, length, MatchResult};
+ghost use Rattle.std.specs.Prelude.{◌≡◌, ◌+◌, ◌*◌, ◌<◌, ◌≤◌, true, false, ◌&&◌, length, MatchResult};
 ghost use Rattle.record.specs.Bytes.{field_at};
 ghost use Rattle.record.specs.Decoding.{state_at, states_at, labels_at, argument_of, arguments_at, unless_none, arrow_at, entry_at};
 ghost use Rattle.record.specs.Ranges.{state_fits, states_fit, label_fits, labels_fit, argument_fits, arguments_fit, guard_fits, arrow_fits, fields_fit};

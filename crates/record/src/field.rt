@@ -1,4 +1,4 @@
-ghost use Rattle.std.specs.Prelude.{◌≡◌, ℕ, ◌+◌, ◌-◌, ◌*◌, ◌^◌, ◌<◌, ◌≤◌, length, MatchResult};
+ghost use Rattle.std.specs.Prelude.{◌≡◌, ◌+◌, ◌-◌, ◌*◌, ◌<◌, ◌≤◌, length, MatchResult};
 ghost use Rattle.record.specs.Bytes.{field_at};
 ghost use Rattle.fault.specs.declared.fault.Question.TheVariants.{RecordWhole, FieldsInRange};
 

@@ -1,8 +1,8 @@
-ghost use Rattle.std.specs.Prelude.{◌≡◌, ℕ, ◌+◌, ◌*◌, ◌^◌, ◌<◌, ◌≤◌, true, false, length, Some, None, MatchResult};
+ghost use Rattle.std.specs.Prelude.{◌≡◌, ◌+◌, ◌*◌, ◌<◌, ◌≤◌, true, length, Some, None, MatchResult};
 ghost use Rattle.fault.specs.Asking.{refusal};
 ghost use Rattle.record.specs.Bytes.{field_at};
 ghost use Rattle.record.specs.Kinds.{kind_of, length_of, count_at, shortest_of};
-ghost use Rattle.record.specs.Frames.{whole, known, exact, frame_asks};
+ghost use Rattle.record.specs.Frames.{whole, exact, frame_asks};
 
 use crate::field::field;
 use crate::kind::Kind;
