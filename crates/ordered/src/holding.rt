@@ -4,7 +4,7 @@ ghost use Rattle.ordered.specs.Held.{held, room, places_from};
 ghost use Rattle.ordered.specs.Order.{kept, spills, StaysRising, HoldsNothingElse, HoldsExactly, LeavesOutAbove};
 
 use crate::list::Ordered;
-use crate::placing::place;
+use crate::placing::{count, place};
 use crate::rank::Rank;
 
 impl<'a, T: Rank + Copy> Ordered<'a, T> {
@@ -23,7 +23,7 @@ impl<'a, T: Rank + Copy> Ordered<'a, T> {
         ensures lends_these_places { result.places.now ≡ places.old }
         ensures keeps_its_lender { result.places.ghost_name ≡ places.entry.ghost_name }
     {
-        let used = len.min(places.len());
+        let used = count(places, len);
         Ordered { places, used }
     }
 

@@ -52,7 +52,7 @@ fn put<T: Rank + Copy>(places: &mut [T], len: usize, x: T) -> (usize, bool)
 }
 
 /// How many of the first `used` places there are.
-fn count<T>(places: &[T], used: usize) -> usize
+pub(crate) fn count<T>(places: &[T], used: usize) -> usize
     ensures counts { result ≡ length (take used places.now) }
     ensures same { take result places.now ≡ take used places.now }
 {

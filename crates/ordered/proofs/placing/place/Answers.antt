@@ -1,4 +1,4 @@
-use Rattle.std.proofs.Common.{◌≡◌, List, length, take, ap, ◌∙◌, arith}
+use Rattle.std.proofs.Common.{◌≡◌, List, length, take, arith}
 use Rattle.std.proofs.lemmas.List.{length-take, length-take-le}
 use Rattle.ordered.specs.Order.{Order, kept, spills}
 use Rattle.ordered.proofs.Laws.{grows, stays-rising, nothing-else, holds-exactly, leaves-out-above}
@@ -17,8 +17,9 @@ returns g c =
     let xs : List g.row.T.Denot = take c.args.used s in
     let x = c.args.x in
     let n = c.put.result.0 in
-    let is : take n t ≡ kept rank (length s) xs x = c.put.ensures.held ∙ ap (λ (ys : List g.row.T.Denot). kept rank (length s) ys x) c.count-len.ensures.same in
-    let is-over : c.put.result.1 ≡ spills rank (length s) xs x = c.put.ensures.over ∙ ap (λ (ys : List g.row.T.Denot). spills rank (length s) ys x) c.count-len.ensures.same in
+    let same : take c.count-len.result s ≡ xs = c.count-len.ensures.same in
+    let is : take n t ≡ kept rank (length s) xs x = rw same at c.put.ensures.held in
+    let is-over : c.put.result.1 ≡ spills rank (length s) xs x = rw same at c.put.ensures.over in
     let long = length-take-le n t c.put.ensures.fits in
     record {
       fits = c.put.ensures.fits;
