@@ -4,8 +4,9 @@
 usage: python3 tools/respell.py        at the top of a repository that the kit's port.py has just gone over
 
 What is renamed is every definition of specs/ and proofs/ whose name is in camel case, in the crates and in the pages. Functions of src/,
-types, modules, strings, inputs and outputs keep their names (lemmas had dashes before, and have them now). Six definitions would have fallen together with a function, a method or a struct of src/, so they have a
-name of their own. It also adds `#![tactic(auto)]` to each crate's head, where the newer kit looks for it. Run twice, it changes nothing.
+types, modules, strings, inputs and outputs keep their names (lemmas had dashes before, and have them now). Six definitions would have had
+the name of a function, a method or a module of src/, so they have a name of their own. It also adds `#![tactic(auto)]` to each crate's
+head, where the newer kit looks for it. Run twice, it changes nothing.
 """
 
 import pathlib
@@ -15,7 +16,7 @@ import re
 DECLARED = re.compile(r"^(?:abbrev |unfoldable )?(?:pub )?([a-z]+(?:[A-Z][a-z0-9]*)+)\s*:", re.M)
 CAMEL = re.compile(r"(?<=[a-z0-9])(?=[A-Z])")
 
-# In snake case these would be the names of functions or methods of src/.
+# In snake case these would be the names of functions, methods or modules of src/.
 OTHERWISE = {
     "acceptedLine": "accepted_text",
     "arrowLine": "arrow_text",
