@@ -7,27 +7,7 @@ impl Question {
     pub(crate) fn number(self) -> u8
         ensures is_the_listed_number { result ≡ number_of self }
     {
-        match self {
-            Question::FileWithinLimit => 1,
-            Question::RecordWhole => 2,
-            Question::KindKnown => 3,
-            Question::LengthExact => 4,
-            Question::FieldsInRange => 5,
-            Question::ChildrenFree => 6,
-            Question::ArrowPlaced => 7,
-            Question::OneRoot => 8,
-            Question::BindersFew => 9,
-            Question::VariablesInScope => 10,
-            Question::ProcedureDrawn => 11,
-            Question::TypesKnown => 12,
-            Question::WidthsWithinRow => 13,
-            Question::CeilingInRange => 14,
-            Question::EventInForm => 15,
-            Question::SuccessorExists => 16,
-            Question::SuccessorsWithinCeiling => 17,
-            Question::MenuWithinList => 18,
-            Question::SettingInRange => 19,
-        }
+        self as u8
     }
 
     pub(crate) fn layer(self) -> Layer
@@ -73,12 +53,7 @@ impl Layer {
     pub fn number(self) -> u8
         ensures is_the_listed_number { result ≡ layer_number_of self }
     {
-        match self {
-            Layer::Reading => 1,
-            Layer::Opening => 2,
-            Layer::Running => 3,
-            Layer::Settings => 4,
-        }
+        self as u8
     }
 }
 

@@ -4,3 +4,4 @@
 pub mod arrow;
 pub mod node;
 pub mod parts;
+pub mod table;
