@@ -1,5 +1,5 @@
 -- What a node names: its children, and whether it binds a variable.
-use Rattle.std.specs.Prelude.{ℕ, Bool, true, false, List, [], ◌∷◌, ◌++◌, take, None}
+use Rattle.std.specs.Prelude.{ℕ, Bool, true, false, List, [], ◌∷◌, ◌++◌, length, None}
 use Rattle.std.specs.Option.{option_to_list}
 use Rattle.notation.specs.declared.node.State.{State}
 use Rattle.notation.specs.declared.node.Mark.TheVariants.{Unmarked}
@@ -29,7 +29,7 @@ children_of_states (s ∷ ss) = option_to_list s.child ++ children_of_states ss
 -- the children of a node, in the order in which its record names them
 abbrev pub children_of : Node → List ℕ
 children_of (Closure body) = body ∷ []
-children_of (Automaton states) = children_of_states (take states.count states.table)
+children_of (Automaton states) = children_of_states states.table.items
 children_of (Sequence first second) = first ∷ second ∷ []
 children_of (Guard guard body) = body ∷ []
 children_of (Choice left right) = left ∷ right ∷ []
@@ -51,7 +51,7 @@ binds (QuantifiedSynchronisation over body labels) = true
 -- how many states a node has: none unless it is an automaton
 abbrev pub states_of : Node → ℕ
 states_of (Closure body) = 0
-states_of (Automaton states) = states.count
+states_of (Automaton states) = length states.table.items
 states_of (Sequence first second) = 0
 states_of (Guard guard body) = 0
 states_of (Choice left right) = 0

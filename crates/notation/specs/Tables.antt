@@ -1,5 +1,5 @@
 -- What a contract sees of a table.
-use Rattle.std.specs.Prelude.{◌≡◌, ℕ, List, refl}
+use Rattle.std.specs.Prelude.{List, refl}
 use Rattle.std.specs.Coded.{Coded, code_by, coded_list, coded×}
 
 -- the elements in order, and what stands in the places that are not in use

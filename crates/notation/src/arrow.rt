@@ -1,5 +1,5 @@
 /// An argument that an arrow asks of an event.
-#[derive(Clone, Copy)]
+#[derive(Clone, Copy, Debug, PartialEq, Eq)]
 pub enum Argument {
     Absent,
     Constant(u16),
@@ -10,7 +10,7 @@ pub enum Argument {
 }
 
 /// An arrow between two states of an automaton.
-#[derive(Clone, Copy)]
+#[derive(Clone, Copy, Debug, PartialEq, Eq)]
 pub struct Arrow {
     pub node: u16,
     pub from: u16,

@@ -1,5 +1,7 @@
+use crate::table::Table;
+
 /// Whether a state of an automaton is final.
-#[derive(Clone, Copy)]
+#[derive(Clone, Copy, Debug, PartialEq, Eq)]
 pub enum Mark {
     Unmarked,
     /// Final, whatever its child does.
@@ -9,26 +11,21 @@ pub enum Mark {
 }
 
 /// A state of an automaton. One without a child is elementary.
-#[derive(Clone, Copy)]
+#[derive(Clone, Copy, Debug, PartialEq, Eq)]
 pub struct State {
     pub mark: Mark,
     pub child: Option<u16>,
 }
 
-/// The states of an automaton: the first `count` places of the table; the others are blank.
+/// The states of an automaton by their numbers, and the one that it starts in. Places not in use are blank.
 #[derive(Clone, Copy)]
 pub struct States {
-    pub count: u16,
     pub start: u16,
-    pub table: [State; 32],
+    pub table: Table<State, 32>,
 }
 
-/// A set of labels, rising: the first `count` places of the table; the others are 0.
-#[derive(Clone, Copy)]
-pub struct Labels {
-    pub count: u16,
-    pub table: [u16; 16],
-}
+/// A set of labels, rising. Places not in use are 0.
+pub type Labels = Table<u16, 16>;
 
 /// A node of a diagram. Children are given by their numbers.
 #[derive(Clone, Copy)]

@@ -1,4 +1,4 @@
-ghost use Rattle.std.specs.Prelude.{◌≡◌};
+ghost use Rattle.std.specs.Prelude.{◌≡◌, ◌≤◌};
 ghost use Rattle.notation.specs.Parts.{is_absent, binds, states_of, binders_for};
 
 use crate::arrow::Argument;
@@ -35,11 +35,12 @@ impl Node {
     }
 
     /// The number of states of an automaton, 0 for any other node.
-    pub fn states(&self) -> u16
+    pub fn states(&self) -> usize
         ensures counts_states { result ≡ states_of self.now }
+        ensures at_most_32 { result ≤ 32 }
     {
         match self {
-            Node::Automaton { states } => states.count,
+            Node::Automaton { states } => states.table.len(),
             _ => 0,
         }
     }

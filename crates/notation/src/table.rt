@@ -1,9 +1,8 @@
-//! A list in fixed memory.
-ghost use Rattle.std.specs.Prelude.{◌≡◌, ◌+◌, ◌<◌, ◌≤◌, [], ◌∷◌, ◌++◌, length, replicate};
+ghost use Rattle.std.specs.Prelude.{◌≡◌, ◌+◌, ◌<◌, ◌≤◌, ◌==◌, [], ◌∷◌, ◌++◌, length, drop, replicate};
 
 use std::marker::Model;
 
-/// A list of at most `N` elements, which lie in the value itself. The places that are not in use hold what they were made with.
+/// A list of at most `N` elements that lie in the value itself. A place not in use holds what the table was made with.
 #[derive(Clone, Copy)]
 pub struct Table<T, const N: usize> {
     places: [T; N],
@@ -32,15 +31,30 @@ impl<T, const N: usize> Model for Table<T, N> {
 }
 
 impl<T: Copy, const N: usize> Table<T, N> {
-    /// An empty list, whose places hold `blank`.
+    /// An empty table, with `blank` in each place.
     pub fn new(blank: T) -> Table<T, N>
         ensures holds_nothing { result.items ≡ [] }
-        ensures blank_elsewhere { result.spare ≡ replicate N blank }
+        ensures is_blank_elsewhere { result.spare ≡ replicate N blank }
     {
         Table {
             places: [blank; N],
             used: 0,
         }
+    }
+
+    /// How many elements it holds.
+    pub fn len(&self) -> usize
+        ensures counts { result ≡ length self.now.items }
+        ensures fits { result ≤ N }
+    {
+        self.used
+    }
+
+    /// Whether no further element has room.
+    pub fn is_full(&self) -> bool
+        ensures says_whether_full { result ≡ (length self.now.items == N) }
+    {
+        self.len() == N
     }
 
     /// The elements in order.
@@ -49,5 +63,15 @@ impl<T: Copy, const N: usize> Table<T, N> {
         ensures fits { length result.now ≤ N }
     {
         &self.places[..self.used]
+    }
+
+    /// Puts an element behind the others. There must be room.
+    pub fn push(&mut self, x: T)
+        requires { length self.old.items < N }
+        ensures holds_one_more { self.new.items ≡ self.old.items ++ x ∷ [] }
+        ensures takes_a_spare_place { self.new.spare ≡ drop 1 self.old.spare }
+    {
+        self.places[self.used] = x;
+        self.used += 1;
     }
 }
