@@ -1,12 +1,12 @@
 -- What the fields of the record that begins at `at` tell: a node or an arrow.
-use Rattle.std.specs.Prelude.{ℕ, ◌+◌, ◌*◌, cond, List, map, Some, None, Option, ◌==◌, nat_lt}
+use Rattle.std.specs.Prelude.{ℕ, ◌+◌, ◌-◌, ◌*◌, cond, List, map, replicate, Some, None, Option, ◌==◌}
 use Rattle.std.specs.List.{range_with_len}
+use Rattle.notation.specs.Tables.{Table}
 use Rattle.notation.specs.Parts.{blank_state}
 use Rattle.notation.specs.declared.node.Mark.{Mark}
 use Rattle.notation.specs.declared.node.Mark.TheVariants.{Unmarked, Shallow, Deep}
 use Rattle.notation.specs.declared.node.State.{State}
 use Rattle.notation.specs.declared.node.States.{States}
-use Rattle.notation.specs.declared.node.Labels.{Labels}
 use Rattle.notation.specs.declared.node.Node.TheVariants as n
 use Rattle.notation.specs.declared.arrow.Arrow.{Arrow}
 use Rattle.notation.specs.declared.arrow.Argument.{Argument}
@@ -29,9 +29,9 @@ unless_none c = cond (c == 65535) None (Some c)
 abbrev pub argument_of : ℕ → ℕ → Argument
 argument_of c v = cond (c == 0) Absent (cond (c == 1) (Constant v) (cond (c == 2) Outer Inner))
 
--- a table of `size` places, of which the first n are given by f and the others are blank
-unfoldable pub tabled : {X : Type 0} → ℕ → X → ℕ → (ℕ → X) → List X
-tabled size blank n f = map (λ i. cond (nat_lt i n) (f i) blank) (range_with_len 0 size)
+-- a table of `size` places that holds the n elements that f gives; the other places are blank
+unfoldable pub tabled : {X : Type 0} → ℕ → X → ℕ → (ℕ → X) → Table X
+tabled size blank n f = record { items = map f (range_with_len 0 n); spare = replicate (size - n) blank }
 
 -- a state is a pair of fields, mark and child
 abbrev pub state_at : List ℕ → ℕ → State
@@ -40,17 +40,13 @@ state_at b at = record { mark = mark_of (field_at b at); child = unless_none (fi
 -- count, start, and a pair of fields for each state
 abbrev pub states_at : List ℕ → ℕ → States
 states_at b at = record {
-  count = field_at b (at + 4);
   start = field_at b (at + 6);
   table = tabled 32 blank_state (field_at b (at + 4)) (λ i. state_at b (at + 8 + 4 * i));
 }
 
 -- a set of labels: its count, and a field for each
-abbrev pub labels_at : List ℕ → ℕ → Labels
-labels_at b at = record {
-  count = field_at b (at + 8);
-  table = tabled 16 0 (field_at b (at + 8)) (λ i. field_at b (at + 10 + 2 * i));
-}
+abbrev pub labels_at : List ℕ → ℕ → Table ℕ
+labels_at b at = tabled 16 0 (field_at b (at + 8)) (λ i. field_at b (at + 10 + 2 * i))
 
 -- two arguments, each a pair of fields, kind and value
 abbrev pub arguments_at : List ℕ → ℕ → Argument × Argument

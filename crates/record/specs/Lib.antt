@@ -3,3 +3,4 @@ pub mod Decoding
 pub mod Frames
 pub mod Kinds
 pub mod Ranges
+pub mod Ranged

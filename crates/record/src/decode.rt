@@ -1,209 +1,189 @@
-ghost use Rattle.std.specs.Prelude.{◌≡◌, ◌+◌, ◌*◌, ◌<◌, ◌≤◌, true, false, ◌&&◌, length, MatchResult};
+ghost use Rattle.std.specs.Prelude.{◌≡◌, ◌+◌, ◌*◌, ◌≤◌, true, false, length};
 ghost use Rattle.record.specs.Bytes.{field_at};
 ghost use Rattle.record.specs.Decoding.{state_at, states_at, labels_at, argument_of, arguments_at, unless_none, arrow_at, entry_at};
 ghost use Rattle.record.specs.Ranges.{state_fits, states_fit, label_fits, labels_fit, argument_fits, arguments_fit, guard_fits, arrow_fits, fields_fit};
+ghost use Rattle.record.specs.Ranged.{Ranged};
 ghost use Rattle.record.specs.Kinds.{length_of, count_at};
-ghost use Rattle.fault.specs.declared.fault.Question.TheVariants.{FieldsInRange};
 
 use crate::entry::Entry;
-use crate::field::{at_most, field};
 use crate::kind::Kind;
+use crate::record::Record;
 use fault::fault::{Fault, Question};
 use notation::arrow::{Argument, Arrow};
 use notation::node::{Labels, Mark, Node, State, States};
+use notation::table::Table;
 
-/// The state whose mark and child stand at `at`.
-fn state(bytes: &[u8], at: usize, place: usize) -> Result<State, Fault>
-    requires { at + 4 ≤ length bytes.now }
-    ensures { MatchResult result
-        (λ s. (state_fits bytes.now at ≡ true) × (s ≡ state_at bytes.now at))
-        (λ e. (state_fits bytes.now at ≡ false) × (e ≡ record { question = FieldsInRange; place = place })) }
-{
-    let mark = field(bytes, at, place)?;
-    let child = field(bytes, at + 2, place)?;
-    let child = if child == 65535 { None } else { Some(child) };
-    let mark = match mark {
-        0 => Mark::Unmarked,
-        1 => Mark::Shallow,
-        2 if child.is_some() => Mark::Deep,
-        _ => return Err(Question::FieldsInRange.at(place)),
-    };
-    Ok(State { mark, child })
-}
-
-/// The argument whose kind and value stand at `at`.
-fn argument(bytes: &[u8], at: usize, place: usize) -> Result<Argument, Fault>
-    requires { at + 4 ≤ length bytes.now }
-    ensures { MatchResult result
-        (λ a. (argument_fits (field_at bytes.now at) (field_at bytes.now (at + 2)) ≡ true) × (a ≡ argument_of (field_at bytes.now at) (field_at bytes.now (at + 2))))
-        (λ e. (argument_fits (field_at bytes.now at) (field_at bytes.now (at + 2)) ≡ false) × (e ≡ record { question = FieldsInRange; place = place })) }
-{
-    let kind = field(bytes, at, place)?;
-    let value = field(bytes, at + 2, place)?;
-    match kind {
-        1 => Ok(Argument::Constant(value)),
-        0 if value == 0 => Ok(Argument::Absent),
-        2 if value == 0 => Ok(Argument::Outer),
-        3 if value == 0 => Ok(Argument::Inner),
-        _ => Err(Question::FieldsInRange.at(place)),
+impl Record<'_> {
+    /// The state whose mark and child stand at `offset`.
+    fn state(&self, offset: usize) -> Result<State, Fault>
+        requires { self.now.at + offset + 4 ≤ length self.now.bytes.now }
+        ensures { Ranged (state_fits self.now.bytes.now (self.now.at + offset)) (state_at self.now.bytes.now (self.now.at + offset)) self.now.place result }
+    {
+        let mark = self.field(offset)?;
+        let child = self.field(offset + 2)?;
+        let child = (child != 65535).then_some(child);
+        let mark = match mark {
+            0 => Mark::Unmarked,
+            1 => Mark::Shallow,
+            2 if child.is_some() => Mark::Deep,
+            _ => return Err(self.fault(Question::FieldsInRange)),
+        };
+        Ok(State { mark, child })
     }
-}
 
-/// The states of the automaton whose record begins at `at`.
-fn states(bytes: &[u8], at: usize, place: usize) -> Result<States, Fault>
-    requires { at + 8 + 4 * field_at bytes.now (at + 4) ≤ length bytes.now }
-    ensures { MatchResult result
-        (λ s. (states_fit bytes.now at ≡ true) × (s ≡ states_at bytes.now at))
-        (λ e. (states_fit bytes.now at ≡ false) × (e ≡ record { question = FieldsInRange; place = place })) }
-{
-    let count = at_most(bytes, at + 4, 32, place)?;
-    let start = field(bytes, at + 6, place)?;
-    if start >= count {
-        return Err(Question::FieldsInRange.at(place));
-    }
-    let mut table = [State {
-        mark: Mark::Unmarked,
-        child: None,
-    }; 32];
-    for i in 0..count as usize {
-        table[i] = state(bytes, at + 8 + 4 * i, place)?;
-    }
-    Ok(States {
-        count,
-        start,
-        table,
-    })
-}
-
-/// The label at place `i` of the set whose count stands at `at + 8`.
-fn label(bytes: &[u8], at: usize, i: usize, place: usize) -> Result<u16, Fault>
-    requires { at + 12 + 2 * i ≤ length bytes.now }
-    ensures { MatchResult result
-        (λ v. (label_fits bytes.now at i ≡ true) × (v ≡ field_at bytes.now (at + 10 + 2 * i)))
-        (λ e. (label_fits bytes.now at i ≡ false) × (e ≡ record { question = FieldsInRange; place = place })) }
-{
-    let here = at_most(bytes, at + 10 + 2 * i, 255, place)?;
-    if i > 0 {
-        let before = field(bytes, at + 8 + 2 * i, place)?;
-        if before >= here {
-            return Err(Question::FieldsInRange.at(place));
+    /// The argument whose kind and value stand at `offset`.
+    fn argument(&self, offset: usize) -> Result<Argument, Fault>
+        requires { self.now.at + offset + 4 ≤ length self.now.bytes.now }
+        ensures { Ranged
+            (argument_fits (field_at self.now.bytes.now (self.now.at + offset)) (field_at self.now.bytes.now (self.now.at + offset + 2)))
+            (argument_of (field_at self.now.bytes.now (self.now.at + offset)) (field_at self.now.bytes.now (self.now.at + offset + 2)))
+            self.now.place result }
+    {
+        let kind = self.field(offset)?;
+        let value = self.field(offset + 2)?;
+        match kind {
+            1 => Ok(Argument::Constant(value)),
+            0 if value == 0 => Ok(Argument::Absent),
+            2 if value == 0 => Ok(Argument::Outer),
+            3 if value == 0 => Ok(Argument::Inner),
+            _ => Err(self.fault(Question::FieldsInRange)),
         }
     }
-    Ok(here)
-}
 
-/// The set of labels whose count stands at `at + 8`.
-fn labels(bytes: &[u8], at: usize, place: usize) -> Result<Labels, Fault>
-    requires { at + 10 + 2 * field_at bytes.now (at + 8) ≤ length bytes.now }
-    ensures { MatchResult result
-        (λ s. (labels_fit bytes.now at ≡ true) × (s ≡ labels_at bytes.now at))
-        (λ e. (labels_fit bytes.now at ≡ false) × (e ≡ record { question = FieldsInRange; place = place })) }
-{
-    let count = at_most(bytes, at + 8, 16, place)?;
-    let mut table = [0; 16];
-    for i in 0..count as usize {
-        table[i] = label(bytes, at, i, place)?;
+    /// The states of an automaton.
+    fn states(&self) -> Result<States, Fault>
+        requires { self.now.at + 8 + 4 * field_at self.now.bytes.now (self.now.at + 4) ≤ length self.now.bytes.now }
+        ensures { Ranged (states_fit self.now.bytes.now self.now.at) (states_at self.now.bytes.now self.now.at) self.now.place result }
+    {
+        let count = self.at_most(4, 32)?;
+        let start = self.field(6)?;
+        if start >= count {
+            return Err(self.fault(Question::FieldsInRange));
+        }
+        let mut table = Table::new(State {
+            mark: Mark::Unmarked,
+            child: None,
+        });
+        for i in 0..usize::from(count) {
+            table.push(self.state(8 + 4 * i)?);
+        }
+        Ok(States { start, table })
     }
-    Ok(Labels { count, table })
-}
 
-/// An arrow's guard at `at`, 65,535 for none.
-fn guard(bytes: &[u8], at: usize, place: usize) -> Result<Option<u16>, Fault>
-    requires { at + 2 ≤ length bytes.now }
-    ensures { MatchResult result
-        (λ g. (guard_fits (field_at bytes.now at) ≡ true) × (g ≡ unless_none (field_at bytes.now at)))
-        (λ e. (guard_fits (field_at bytes.now at) ≡ false) × (e ≡ record { question = FieldsInRange; place = place })) }
-{
-    let guard = field(bytes, at, place)?;
-    match guard {
-        0..=31 => Ok(Some(guard)),
-        65535 => Ok(None),
-        _ => Err(Question::FieldsInRange.at(place)),
+    /// The label at place `i` of a set.
+    fn label(&self, i: usize) -> Result<u16, Fault>
+        requires { self.now.at + 12 + 2 * i ≤ length self.now.bytes.now }
+        ensures { Ranged (label_fits self.now.bytes.now self.now.at i) (field_at self.now.bytes.now (self.now.at + 10 + 2 * i)) self.now.place result }
+    {
+        let here = self.at_most(10 + 2 * i, 255)?;
+        if i > 0 && self.field(8 + 2 * i)? >= here {
+            return Err(self.fault(Question::FieldsInRange));
+        }
+        Ok(here)
     }
-}
 
-/// The two arguments whose kinds and values stand at `at`; a second one needs a first.
-fn arguments(bytes: &[u8], at: usize, place: usize) -> Result<(Argument, Argument), Fault>
-    requires { at + 8 ≤ length bytes.now }
-    ensures { MatchResult result
-        (λ a. (arguments_fit bytes.now at ≡ true) × (a ≡ arguments_at bytes.now at))
-        (λ e. (arguments_fit bytes.now at ≡ false) × (e ≡ record { question = FieldsInRange; place = place })) }
-{
-    let first = argument(bytes, at, place)?;
-    let second = argument(bytes, at + 4, place)?;
-    if first.is_absent() && !second.is_absent() {
-        return Err(Question::FieldsInRange.at(place));
+    /// The set of labels whose count stands at 8.
+    fn labels(&self) -> Result<Labels, Fault>
+        requires { self.now.at + 10 + 2 * field_at self.now.bytes.now (self.now.at + 8) ≤ length self.now.bytes.now }
+        ensures { Ranged (labels_fit self.now.bytes.now self.now.at) (labels_at self.now.bytes.now self.now.at) self.now.place result }
+    {
+        let count = self.at_most(8, 16)?;
+        let mut table = Table::new(0);
+        for i in 0..usize::from(count) {
+            table.push(self.label(i)?);
+        }
+        Ok(table)
     }
-    Ok((first, second))
-}
 
-/// The arrow whose record begins at `at`.
-fn decode_arrow(bytes: &[u8], at: usize, place: usize) -> Result<Arrow, Fault>
-    requires { at + 24 ≤ length bytes.now }
-    ensures { MatchResult result
-        (λ a. (arrow_fits bytes.now at ≡ true) × (a ≡ arrow_at bytes.now at))
-        (λ e. (arrow_fits bytes.now at ≡ false) × (e ≡ record { question = FieldsInRange; place = place })) }
-{
-    let node = field(bytes, at + 4, place)?;
-    let from = field(bytes, at + 6, place)?;
-    let to = field(bytes, at + 8, place)?;
-    let label = at_most(bytes, at + 10, 255, place)?;
-    let waits = at_most(bytes, at + 12, 1, place)? == 1;
-    let guard = guard(bytes, at + 14, place)?;
-    let (first, second) = arguments(bytes, at + 16, place)?;
-    Ok(Arrow {
-        node,
-        from,
-        to,
-        label,
-        waits,
-        guard,
-        first,
-        second,
-    })
-}
+    /// An arrow's guard at `offset`, 65,535 for none.
+    fn guard(&self, offset: usize) -> Result<Option<u16>, Fault>
+        requires { self.now.at + offset + 2 ≤ length self.now.bytes.now }
+        ensures { Ranged (guard_fits (field_at self.now.bytes.now (self.now.at + offset))) (unless_none (field_at self.now.bytes.now (self.now.at + offset))) self.now.place result }
+    {
+        match self.field(offset)? {
+            guard @ 0..=31 => Ok(Some(guard)),
+            65535 => Ok(None),
+            _ => Err(self.fault(Question::FieldsInRange)),
+        }
+    }
 
-/// The node or the arrow that a framed record tells: question 5, but for how many came before.
-pub fn decode(bytes: &[u8], at: usize, kind: Kind, place: usize) -> Result<Entry, Fault>
-    requires { at + 2 + length_of kind (count_at kind bytes.now at) ≤ length bytes.now }
-    ensures tells_the_entry_or_that_a_field_is_out_of_range { MatchResult result
-        (λ v. (fields_fit kind bytes.now at ≡ true) × (v ≡ entry_at kind bytes.now at))
-        (λ e. (fields_fit kind bytes.now at ≡ false) × (e ≡ record { question = FieldsInRange; place = place })) }
-{
-    let node = match kind {
-        Kind::Automaton => Node::Automaton {
-            states: states(bytes, at, place)?,
-        },
-        Kind::Sequence => Node::Sequence {
-            first: field(bytes, at + 4, place)?,
-            second: field(bytes, at + 6, place)?,
-        },
-        Kind::Closure => Node::Closure {
-            body: field(bytes, at + 4, place)?,
-        },
-        Kind::Guard => Node::Guard {
-            guard: at_most(bytes, at + 4, 31, place)?,
-            body: field(bytes, at + 6, place)?,
-        },
-        Kind::Choice => Node::Choice {
-            left: field(bytes, at + 4, place)?,
-            right: field(bytes, at + 6, place)?,
-        },
-        Kind::Synchronisation => Node::Synchronisation {
-            left: field(bytes, at + 4, place)?,
-            right: field(bytes, at + 6, place)?,
-            labels: labels(bytes, at, place)?,
-        },
-        Kind::QuantifiedChoice => Node::QuantifiedChoice {
-            over: at_most(bytes, at + 4, 7, place)?,
-            body: field(bytes, at + 6, place)?,
-        },
-        Kind::QuantifiedSynchronisation => Node::QuantifiedSynchronisation {
-            over: at_most(bytes, at + 4, 7, place)?,
-            body: field(bytes, at + 6, place)?,
-            labels: labels(bytes, at, place)?,
-        },
-        Kind::Arrow => return Ok(Entry::Arrow(decode_arrow(bytes, at, place)?)),
-    };
-    Ok(Entry::Node(node))
+    /// The two arguments whose kinds and values stand at `offset`; a second one needs a first.
+    fn arguments(&self, offset: usize) -> Result<(Argument, Argument), Fault>
+        requires { self.now.at + offset + 8 ≤ length self.now.bytes.now }
+        ensures { Ranged (arguments_fit self.now.bytes.now (self.now.at + offset)) (arguments_at self.now.bytes.now (self.now.at + offset)) self.now.place result }
+    {
+        let first = self.argument(offset)?;
+        let second = self.argument(offset + 4)?;
+        if first.is_absent() && !second.is_absent() {
+            return Err(self.fault(Question::FieldsInRange));
+        }
+        Ok((first, second))
+    }
+
+    /// The arrow.
+    fn arrow(&self) -> Result<Arrow, Fault>
+        requires { self.now.at + 24 ≤ length self.now.bytes.now }
+        ensures { Ranged (arrow_fits self.now.bytes.now self.now.at) (arrow_at self.now.bytes.now self.now.at) self.now.place result }
+    {
+        let node = self.field(4)?;
+        let from = self.field(6)?;
+        let to = self.field(8)?;
+        let label = self.at_most(10, 255)?;
+        let waits = self.at_most(12, 1)? == 1;
+        let guard = self.guard(14)?;
+        let (first, second) = self.arguments(16)?;
+        Ok(Arrow {
+            node,
+            from,
+            to,
+            label,
+            waits,
+            guard,
+            first,
+            second,
+        })
+    }
+
+    /// The node or the arrow that a framed record of this kind tells: question 5, but for how many came before.
+    pub fn decode(&self, kind: Kind) -> Result<Entry, Fault>
+        requires { self.now.at + 2 + length_of kind (count_at kind self.now.bytes.now self.now.at) ≤ length self.now.bytes.now }
+        ensures tells_the_entry_or_that_a_field_is_out_of_range { Ranged (fields_fit kind self.now.bytes.now self.now.at) (entry_at kind self.now.bytes.now self.now.at) self.now.place result }
+    {
+        let node = match kind {
+            Kind::Automaton => Node::Automaton {
+                states: self.states()?,
+            },
+            Kind::Sequence => Node::Sequence {
+                first: self.field(4)?,
+                second: self.field(6)?,
+            },
+            Kind::Closure => Node::Closure {
+                body: self.field(4)?,
+            },
+            Kind::Guard => Node::Guard {
+                guard: self.at_most(4, 31)?,
+                body: self.field(6)?,
+            },
+            Kind::Choice => Node::Choice {
+                left: self.field(4)?,
+                right: self.field(6)?,
+            },
+            Kind::Synchronisation => Node::Synchronisation {
+                left: self.field(4)?,
+                right: self.field(6)?,
+                labels: self.labels()?,
+            },
+            Kind::QuantifiedChoice => Node::QuantifiedChoice {
+                over: self.at_most(4, 7)?,
+                body: self.field(6)?,
+            },
+            Kind::QuantifiedSynchronisation => Node::QuantifiedSynchronisation {
+                over: self.at_most(4, 7)?,
+                body: self.field(6)?,
+                labels: self.labels()?,
+            },
+            Kind::Arrow => return Ok(Entry::Arrow(self.arrow()?)),
+        };
+        Ok(Entry::Node(node))
+    }
 }

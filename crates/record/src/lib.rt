@@ -3,6 +3,6 @@
 
 pub mod decode;
 pub mod entry;
-pub mod field;
 pub mod frame;
 pub mod kind;
+pub mod record;
