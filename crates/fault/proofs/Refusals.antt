@@ -1,7 +1,8 @@
 -- The first no among questions that are asked one after the other.
-use Rattle.std.proofs.Common.{◌≡◌, ℕ, zero, suc, ◌+◌, ◌<◌, ◌≤◌, Bool, true, false, cond, List, [], ◌∷◌, ◌++◌, Some, None, Option, sym, refl, ap, ◌∙◌, subst, ⊎_elim, arith}
+use Rattle.std.proofs.Common.{◌≡◌, ℕ, zero, suc, ◌<◌, Bool, true, false, List, [], ◌∷◌, ◌++◌, Some, None, Ok, Err, Option, Result, MatchResult, sym, refl, ap, ◌∙◌, ⊎_elim, arith}
 use Rattle.std.proofs.lemmas.Bool.{cases_Bool, cases_lt}
-use Rattle.fault.specs.Asking.{Asked, refusal, AllYes, FirstNo, asked_up_to}
+use Rattle.fault.specs.Asking.{Asked, refusal, AllYes, FirstNo, AskedOfEach, asked_up_to}
+use Rattle.fault.specs.declared.fault.Question.{Question}
 use Rattle.fault.specs.declared.fault.Fault.{Fault}
 
 clash : {f : Fault} → None ≡ Some f → ⊥
@@ -85,3 +86,12 @@ asked-each (suc n) g h i lt =
 
 pub yes-first : (x : Asked) (xs : List Asked) → refusal (x ∷ xs) ≡ None → (x.yes ≡ true) × (refusal xs ≡ None)
 yes-first x xs h = ⊎_elim (λ t. (t, rw t at h)) (λ f. absurd (clash (sym (rw f at h)))) (cases_Bool x.yes)
+
+-- one question of each number below n, where g is what is answered
+pub asked-of-each : (answers : ℕ → Bool → Type 0) (g : ℕ → Bool) (q : Question) (n : ℕ) → ((k : ℕ) (b : Bool) → k < n → answers k b → b ≡ g k) → (r : Result (Unit {0}) Fault) → AskedOfEach answers q n r
+    → MatchResult r (λ _. refusal (asked_up_to n (λ k. record { question = q; place = k; yes = g k } ∷ [])) ≡ None) (λ f. refusal (asked_up_to n (λ k. record { question = q; place = k; yes = g k } ∷ [])) ≡ Some f)
+asked-of-each answers g q n h (Ok u) a = all_asked n (λ k. record { question = q; place = k; yes = g k } ∷ []) (λ k lt. rw (← h k true lt (a k lt)) refl)
+asked-of-each answers g q n h (Err f) a =
+    first-asked n f.place (λ k. record { question = q; place = k; yes = g k } ∷ []) f a.low
+    (λ k l. rw (← h k true (omega (arith, a.low)) (a.before k l)) refl)
+    (rw (← h f.place false a.low a.no) (rw (← a.asked) refl))

@@ -1,4 +1,5 @@
-ghost use Rattle.std.specs.Prelude.{◌≡◌};
+ghost use Rattle.std.specs.Prelude.{◌≡◌, ℕ, ◌<◌};
+ghost use Rattle.fault.specs.Asking.{AskedOfEach};
 ghost use Rattle.fault.specs.Faults.{number_of, layer_of, layer_number_of};
 
 use crate::fault::{Fault, Layer, Question};
@@ -46,6 +47,19 @@ impl Question {
             question: self,
             place,
         }
+    }
+
+    /// Asks this question at 0, 1 and so on below `count`, up to the first no.
+    pub fn of_each<F: Fn(usize) -> bool>(self, count: usize, yes: F) -> Result<(), Fault>
+        requires { (k : ℕ) → k < count → F.pre yes k }
+        ensures refuses_at_the_first_no_if_there_is_one { AskedOfEach (F.post yes) self count result }
+    {
+        for place in 0..count {
+            if !yes(place) {
+                return Err(self.at(place));
+            }
+        }
+        Ok(())
     }
 }
 
