@@ -1,7 +1,7 @@
 -- The first no among questions that are asked one after the other.
 use Rattle.std.proofs.Common.{◌≡◌, ℕ, zero, suc, ◌<◌, Bool, true, false, List, [], ◌∷◌, ◌++◌, Some, None, Ok, Err, Option, Result, MatchResult, sym, refl, ap, ◌∙◌, ⊎_elim, arith}
 use Rattle.std.proofs.lemmas.Bool.{cases_Bool, cases_lt}
-use Rattle.fault.specs.Asking.{Asked, refusal, AllYes, FirstNo, AskedOfEach, asked_up_to}
+use Rattle.fault.specs.Asking.{Asked, refusal, AllYes, FirstNo, asked_up_to, asked_of_each, answer_or}
 use Rattle.fault.specs.declared.fault.Question.{Question}
 use Rattle.fault.specs.declared.fault.Fault.{Fault}
 
@@ -87,11 +87,15 @@ asked-each (suc n) g h i lt =
 pub yes-first : (x : Asked) (xs : List Asked) → refusal (x ∷ xs) ≡ None → (x.yes ≡ true) × (refusal xs ≡ None)
 yes-first x xs h = ⊎_elim (λ t. (t, rw t at h)) (λ f. absurd (clash (sym (rw f at h)))) (cases_Bool x.yes)
 
--- one question of each number below n, where g is what is answered
-pub asked-of-each : (answers : ℕ → Bool → Type 0) (g : ℕ → Bool) (q : Question) (n : ℕ) → ((k : ℕ) (b : Bool) → k < n → answers k b → b ≡ g k) → (r : Result (Unit {0}) Fault) → AskedOfEach answers q n r
-    → MatchResult r (λ _. refusal (asked_up_to n (λ k. record { question = q; place = k; yes = g k } ∷ [])) ≡ None) (λ f. refusal (asked_up_to n (λ k. record { question = q; place = k; yes = g k } ∷ [])) ≡ Some f)
-asked-of-each answers g q n h (Ok u) a = all_asked n (λ k. record { question = q; place = k; yes = g k } ∷ []) (λ k lt. rw (← h k true lt (a k lt)) refl)
-asked-of-each answers g q n h (Err f) a =
-    first-asked n f.place (λ k. record { question = q; place = k; yes = g k } ∷ []) f a.low
-    (λ k l. rw (← h k true (omega (arith, a.low)) (a.before k l)) refl)
-    (rw (← h f.place false a.low a.no) (rw (← a.asked) refl))
+-- one question of each number below n: all are answered yes, or the first no is at i
+pub each-yes : (q : Question) (n : ℕ) (g : ℕ → Bool) → ((k : ℕ) → k < n → g k ≡ true) → refusal (asked_of_each q n g) ≡ None
+each-yes q n g h = all_asked n (λ k. record { question = q; place = k; yes = g k } ∷ []) (λ k lt. rw (h k lt) refl)
+
+pub one-no : (q : Question) (n i : ℕ) (g : ℕ → Bool) → i < n → ((k : ℕ) → k < i → g k ≡ true) → g i ≡ false → refusal (asked_of_each q n g) ≡ Some (record { question = q; place = i })
+one-no q n i g lt h z =
+    first-asked n i (λ k. record { question = q; place = k; yes = g k } ∷ []) (record { question = q; place = i }) lt (λ k l. rw (h k l) refl) (rw z refl)
+
+-- what a call answers tells whether a question is answered no, and which
+pub told : {X : Type 0} (x : X) (o : Option Fault) (r : Result X Fault) → r ≡ answer_or o x → MatchResult r (λ _. o ≡ None) (λ f. o ≡ Some f)
+told x None r e = rw e refl
+told x (Some f) r e = rw e refl

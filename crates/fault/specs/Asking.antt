@@ -1,5 +1,5 @@
 -- Questions as they are asked, one after the other, and the first that is answered no.
-use Rattle.std.specs.Prelude.{◌≡◌, ℕ, zero, suc, ◌<◌, Bool, true, false, cond, List, [], ◌∷◌, ◌++◌, Some, None, Ok, Err, Option, Result}
+use Rattle.std.specs.Prelude.{◌≡◌, ℕ, zero, suc, Bool, true, false, cond, List, [], ◌∷◌, ◌++◌, Some, None, Ok, Err, Option, Result}
 use Rattle.fault.specs.declared.fault.Fault.{Fault}
 use Rattle.fault.specs.declared.fault.Question.{Question}
 
@@ -51,14 +51,6 @@ abbrev pub UnlessRefused : {X : Type 0} → Result X Fault → Type 0 → Type 0
 UnlessRefused (Ok x) P = P
 UnlessRefused (Err f) P = Unit {0}
 
--- of `count` numbered questions the one that f names is the first that is answered no; `answers` says how each may be answered
-pub record FirstNoOf (answers : ℕ → Bool → Type 0) (question : Question) (count : ℕ) (f : Fault) : Type 0 where
-  pub low : f.place < count
-  pub asked : f.question ≡ question
-  pub before : (k : ℕ) → k < f.place → answers k true
-  pub no : answers f.place false
-
--- all of them are answered yes, and there is no refusal; or the refusal is the first no
-abbrev pub AskedOfEach : (ℕ → Bool → Type 0) → Question → ℕ → Result (Unit {0}) Fault → Type 0
-AskedOfEach answers question count (Ok u) = (k : ℕ) → k < count → answers k true
-AskedOfEach answers question count (Err f) = FirstNoOf answers question count f
+-- one question of each number below n, where g says whether it is answered yes
+abbrev pub asked_of_each : Question → ℕ → (ℕ → Bool) → List Asked
+asked_of_each q n g = asked_up_to n (λ k. record { question = q; place = k; yes = g k } ∷ [])

@@ -1,5 +1,5 @@
-ghost use Rattle.std.specs.Prelude.{◌≡◌, ℕ, ◌<◌};
-ghost use Rattle.fault.specs.Asking.{AskedOfEach};
+ghost use Rattle.std.specs.Prelude.{◌≡◌, ℕ, ◌<◌, Bool};
+ghost use Rattle.fault.specs.Asking.{refusal, answer_or, asked_of_each};
 ghost use Rattle.fault.specs.Faults.{number_of, layer_of, layer_number_of};
 
 use crate::fault::{Fault, Layer, Question};
@@ -52,7 +52,7 @@ impl Question {
     /// Asks this question at 0, 1 and so on below `count`, up to the first no.
     pub fn of_each<F: Fn(usize) -> bool>(self, count: usize, yes: F) -> Result<(), Fault>
         requires { (k : ℕ) → k < count → F.pre yes k }
-        ensures refuses_at_the_first_no_if_there_is_one { AskedOfEach (F.post yes) self count result }
+        ensures refuses_at_the_first_no_if_there_is_one { (g : ℕ → Bool) → ((k : ℕ) (b : Bool) → k < count → F.post yes k b → b ≡ g k) → result ≡ answer_or (refusal (asked_of_each self count g)) tt }
     {
         for place in 0..count {
             if !yes(place) {

@@ -50,6 +50,13 @@ impl<T: Copy, const N: usize> Table<T, N> {
         self.used
     }
 
+    /// Whether it holds no element.
+    pub fn is_empty(&self) -> bool
+        ensures says_whether_empty { result ≡ (length self.now.items == 0) }
+    {
+        self.len() == 0
+    }
+
     /// Whether no further element has room.
     pub fn is_full(&self) -> bool
         ensures says_whether_full { result ≡ (length self.now.items == N) }

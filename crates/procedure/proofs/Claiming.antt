@@ -26,8 +26,8 @@ parent-from i (x ∷ ns) n k f =
 pub parent-push : (ns : List Node) (n : Node) (k : ℕ) → parent_of (ns ++ n ∷ []) k ≡ cond (among k (children_of n)) (Some (length ns)) (parent_of ns k)
 parent-push ns n k = parent-from 0 ns n k None ∙ ap (λ j. cond (among k (children_of n)) (Some j) (parent_of ns k)) (omega arith)
 
--- the table in which node m, which comes after the nodes ns, has claimed the children `before`
-pub record Table (m : ℕ) (ns : List Node) (before : List ℕ) (t : List (Option ℕ)) : Type 0 where
+-- the table of parents in which node m, which comes after the nodes ns, has claimed the children `before`
+pub record Parents (m : ℕ) (ns : List Node) (before : List ℕ) (t : List (Option ℕ)) : Type 0 where
   pub long : length t ≡ 64
   pub at : (j : ℕ) → j < 64 → get_or t j None ≡ cond (among j before) (Some m) (parent_of ns j)
 
@@ -41,7 +41,7 @@ among-other j k xs ne = among-append j xs (k ∷ []) ∙ rw (ne_eqb k j (λ e. n
     or-false true = refl
     or-false false = refl
 
-table-set : (m : ℕ) (ns : List Node) (before : List ℕ) (t : List (Option ℕ)) (k : ℕ) → k < 64 → Table m ns before t → Table m ns (before ++ k ∷ []) (set t k (Some m))
+table-set : (m : ℕ) (ns : List Node) (before : List ℕ) (t : List (Option ℕ)) (k : ℕ) → k < 64 → Parents m ns before t → Parents m ns (before ++ k ∷ []) (set t k (Some m))
 table-set m ns before t k lt h =
     let l = h.long in
     let lt' : k < length t = omega arith in
@@ -57,8 +57,8 @@ free-both : (m : ℕ) (a : Bool) (p : Option ℕ) → is_some (cond a (Some m) p
 free-both m true p h = let z : ◌≡◌ {A = Bool} true false = h in let y : ◌≡◌ {A = ℕ} 0 1 = cc in absurd (omega arith)
 free-both m false p h = (refl, h)
 
-pub claims-yes : (m : ℕ) (ns : List Node) (before ks : List ℕ) (t u : List (Option ℕ)) → m ≡ length ns → m ≤ 64 → Table m ns before t
-    → claims m t ks ≡ Some u → (children_free ns before ks ≡ true) × Table m ns (before ++ ks) u
+pub claims-yes : (m : ℕ) (ns : List Node) (before ks : List ℕ) (t u : List (Option ℕ)) → m ≡ length ns → m ≤ 64 → Parents m ns before t
+    → claims m t ks ≡ Some u → (children_free ns before ks ≡ true) × Parents m ns (before ++ ks) u
 claims-yes m ns before [] t u e le tab h = let s : t ≡ u = cc in (refl, rw (append-nil, ← s) tab)
 claims-yes m ns before (k ∷ ks) t u e le tab h =
     ⊎_elim
@@ -77,7 +77,7 @@ taken-either : (m : ℕ) (a : Bool) (p : Option ℕ) (r : Bool) → is_some (con
 taken-either m true p r h = and_right (not (is_some p)) false refl
 taken-either m false p r h = rw h refl
 
-pub claims-no : (m : ℕ) (ns : List Node) (before ks : List ℕ) (t : List (Option ℕ)) → m ≡ length ns → m ≤ 64 → Table m ns before t
+pub claims-no : (m : ℕ) (ns : List Node) (before ks : List ℕ) (t : List (Option ℕ)) → m ≡ length ns → m ≤ 64 → Parents m ns before t
     → claims m t ks ≡ None → children_free ns before ks ≡ false
 claims-no m ns before [] t e le tab h = let y : ◌≡◌ {A = ℕ} 0 1 = cc in absurd (omega arith)
 claims-no m ns before (k ∷ ks) t e le tab h =

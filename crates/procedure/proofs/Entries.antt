@@ -1,18 +1,18 @@
 -- The record of each kind, from its fields in a file.
-use Rattle.std.proofs.Common.{◌≡◌, ℕ, zero, suc, ◌+◌, ◌*◌, ◌<◌, ◌≤◌, true, cond, not, ◌&&◌, ◌||◌, eqb, ltb, leb, List, [], ◌∷◌, ◌++◌, map, get_or, take, Some, None, Option, sym, refl, ap, ◌∙◌, ⊎_elim, add_assoc, arith}
+use Rattle.std.proofs.Common.{◌≡◌, ℕ, zero, suc, ◌+◌, ◌*◌, ◌<◌, ◌≤◌, true, cond, not, ◌&&◌, ◌||◌, eqb, ltb, leb, List, [], ◌∷◌, ◌++◌, map, get_or, Some, None, Option, sym, refl, ap, ◌∙◌, ⊎_elim, add_assoc, arith}
 use Rattle.std.specs.List.{range_with_len}
 use Rattle.std.proofs.lemmas.Bool.{cases_lt, cond_both, eqb-true, eqb-false, leb-true, and_parts, or_cases}
 use Rattle.notation.specs.Parts.{blank_state}
 use Rattle.record.specs.Bytes.{field_at}
 use Rattle.record.specs.Kinds.{kind_of, length_of, count_at}
-use Rattle.record.specs.Decoding.{mark_of, unless_none, argument_of, state_at, entry_at, tabled}
+use Rattle.record.specs.Decoding.{mark_of, unless_none, argument_of, state_at, states_at, entry_at}
 use Rattle.record.specs.Ranges.{mark_fits, state_fits, argument_fits, guard_fits, arrow_fits, fields_fit}
 use Rattle.record.specs.declared.kind.Kind.{Kind}
 use Rattle.record.specs.declared.kind.Kind.TheVariants as k
 use Rattle.record.specs.declared.entry.Entry.{Entry}
 use Rattle.record.proofs.Below.{all-at}
 use Rattle.procedure.specs.Layout.{mark_field, option_field, argument_fields, state_fields, fields_of, Written, NeatEntry}
-use Rattle.procedure.proofs.Fields.{fields_from, table_below, table-past, table-neat, take-table}
+use Rattle.procedure.proofs.Fields.{fields_from, table_length, table_below, table-past, table-neat}
 
 -- fields that are read and written again
 mark-kept : (c : ℕ) → c ≤ 2 → mark_field (mark_of c) ≡ c
@@ -108,29 +108,29 @@ module _ (b : List ℕ) (at : ℕ) where
   three-fields : (code : ℕ) → field_at b (at + 2) ≡ code → code ∷ field_at b (at + 4) ∷ field_at b (at + 6) ∷ [] ≡ fields_from b (at + 2) 3
   three-fields code h = ap (λ c. c ∷ field_at b (at + 4) ∷ field_at b (at + 6) ∷ []) (sym h) ∙ simp add_assoc
 
-  states-read : field_at b (at + 2) ≡ 1 → field_at b (at + 4) ≤ 32 → ((i : ℕ) → i < field_at b (at + 4) → state_fits b (at + 8 + 4 * i) ≡ true)
-      → 1 ∷ field_at b (at + 4) ∷ field_at b (at + 6) ∷ state_fields (take (field_at b (at + 4)) (tabled 32 blank_state (field_at b (at + 4)) (λ i. state_at b (at + 8 + 4 * i))))
+  states-read : field_at b (at + 2) ≡ 1 → ((i : ℕ) → i < field_at b (at + 4) → state_fits b (at + 8 + 4 * i) ≡ true)
+      → 1 ∷ field_at b (at + 4) ∷ field_at b (at + 6) ∷ state_fields (map (λ i. state_at b (at + 8 + 4 * i)) (range_with_len 0 (field_at b (at + 4))))
       ≡ fields_from b (at + 2) (suc (suc (suc (2 * field_at b (at + 4)))))
-  states-read h few fit =
+  states-read h fit =
       let n = field_at b (at + 4) in
-      let t = ap state_fields (take-table 32 blank_state n (λ i. state_at b (at + 8 + 4 * i)) few) ∙ states-kept b (at + 8) 0 n (λ i s. fit i (omega arith)) in
-      ap (λ c. c ∷ n ∷ field_at b (at + 6) ∷ state_fields (take n (tabled 32 blank_state n (λ i. state_at b (at + 8 + 4 * i))))) (sym h)
+      let t = states-kept b (at + 8) 0 n (λ i s. fit i (omega arith)) in
+      ap (λ c. c ∷ n ∷ field_at b (at + 6) ∷ state_fields (map (λ i. state_at b (at + 8 + 4 * i)) (range_with_len 0 n))) (sym h)
       ∙ ap (λ r. field_at b (at + 2) ∷ n ∷ field_at b (at + 6) ∷ r) t ∙ simp add_assoc
 
-  states-written : field_at b (at + 4) ≤ 32 → (i : ℕ) → Written (get_or (tabled 32 blank_state (field_at b (at + 4)) (λ i. state_at b (at + 8 + 4 * i))) i blank_state).child
-  states-written few i =
+  states-written : (i : ℕ) → Written (get_or (states_at b at).table.items i blank_state).child
+  states-written i =
       let n = field_at b (at + 4) in
-      ⊎_elim (λ s. rw (table_below 32 blank_state n (λ i. state_at b (at + 8 + 4 * i)) few i s) (option-written (field_at b (at + 8 + 4 * i + 2))))
-      (λ s. rw (table-past 32 blank_state n (λ i. state_at b (at + 8 + 4 * i)) few i s) tt)
+      ⊎_elim (λ s. rw (table_below 32 blank_state n (λ i. state_at b (at + 8 + 4 * i)) i s) (option-written (field_at b (at + 8 + 4 * i + 2))))
+      (λ s. rw (table-past 32 blank_state n (λ i. state_at b (at + 8 + 4 * i)) i s) tt)
       (cases_lt i n)
 
-  labels-read : (code : ℕ) → field_at b (at + 2) ≡ code → field_at b (at + 8) ≤ 16
-      → code ∷ field_at b (at + 4) ∷ field_at b (at + 6) ∷ field_at b (at + 8) ∷ take (field_at b (at + 8)) (tabled 16 0 (field_at b (at + 8)) (λ i. field_at b (at + 10 + 2 * i)))
+  labels-read : (code : ℕ) → field_at b (at + 2) ≡ code
+      → code ∷ field_at b (at + 4) ∷ field_at b (at + 6) ∷ field_at b (at + 8) ∷ map (λ i. field_at b (at + 10 + 2 * i)) (range_with_len 0 (field_at b (at + 8)))
       ≡ fields_from b (at + 2) (suc (suc (suc (suc (field_at b (at + 8))))))
-  labels-read code h few =
+  labels-read code h =
       let n = field_at b (at + 8) in
-      let t = take-table 16 0 n (λ i. field_at b (at + 10 + 2 * i)) few ∙ labels-kept b (at + 10) 0 n in
-      ap (λ c. c ∷ field_at b (at + 4) ∷ field_at b (at + 6) ∷ n ∷ take n (tabled 16 0 n (λ i. field_at b (at + 10 + 2 * i)))) (sym h)
+      let t = labels-kept b (at + 10) 0 n in
+      ap (λ c. c ∷ field_at b (at + 4) ∷ field_at b (at + 6) ∷ n ∷ map (λ i. field_at b (at + 10 + 2 * i)) (range_with_len 0 n)) (sym h)
       ∙ ap (λ r. field_at b (at + 2) ∷ field_at b (at + 4) ∷ field_at b (at + 6) ∷ n ∷ r) t ∙ simp add_assoc
 
   arrow-read : field_at b (at + 2) ≡ 9 → arrow_fits b at ≡ true → fields_of (entry_at k.Arrow b at) ≡ fields_from b (at + 2) 11
@@ -157,8 +157,7 @@ module _ (b : List ℕ) (at : ℕ) where
       let p = and_parts (leb 1 n) _ f in
       let q = and_parts (leb n 32) _ p.1 in
       let r = and_parts (ltb (field_at b (at + 6)) n) _ q.1 in
-      let few = leb-true n 32 q.0 in
-      record { count = suc (suc (suc (2 * n))); size = omega arith; fields = states-read h few (λ i lt. all-at (λ j. state_fits b (at + 8 + 4 * j)) n i r.1 lt); neat = (table-neat 32 blank_state n (λ i. state_at b (at + 8 + 4 * i)) few, states-written few) }
+      record { count = suc (suc (suc (2 * n))); size = omega arith; fields = rw (table_length 32 blank_state n (λ i. state_at b (at + 8 + 4 * i))) (states-read h (λ i lt. all-at (λ j. state_fits b (at + 8 + 4 * j)) n i r.1 lt)); neat = (table-neat 32 blank_state n (λ i. state_at b (at + 8 + 4 * i)) (leb-true n 32 q.0), states-written) }
   entry_read k.Sequence h l f = record { count = 3; size = l; fields = three-fields 2 h; neat = tt }
   entry_read k.Closure h l f = record { count = 2; size = l; fields = two_fields 3 h; neat = tt }
   entry_read k.Guard h l f = record { count = 3; size = l; fields = three-fields 4 h; neat = tt }
@@ -166,10 +165,10 @@ module _ (b : List ℕ) (at : ℕ) where
   entry_read k.Synchronisation h l f =
       let n = field_at b (at + 8) in
       let few = leb-true n 16 (and_parts (leb n 16) _ f).0 in
-      record { count = suc (suc (suc (suc n))); size = omega arith; fields = labels-read 6 h few; neat = table-neat 16 0 n (λ i. field_at b (at + 10 + 2 * i)) few }
+      record { count = suc (suc (suc (suc n))); size = omega arith; fields = rw (table_length 16 0 n (λ i. field_at b (at + 10 + 2 * i))) (labels-read 6 h); neat = table-neat 16 0 n (λ i. field_at b (at + 10 + 2 * i)) few }
   entry_read k.QuantifiedChoice h l f = record { count = 3; size = l; fields = three-fields 7 h; neat = tt }
   entry_read k.QuantifiedSynchronisation h l f =
       let n = field_at b (at + 8) in
       let few = leb-true n 16 (and_parts (leb n 16) _ (and_parts (leb (field_at b (at + 4)) 7) _ f).1).0 in
-      record { count = suc (suc (suc (suc n))); size = omega arith; fields = labels-read 8 h few; neat = table-neat 16 0 n (λ i. field_at b (at + 10 + 2 * i)) few }
+      record { count = suc (suc (suc (suc n))); size = omega arith; fields = rw (table_length 16 0 n (λ i. field_at b (at + 10 + 2 * i))) (labels-read 8 h); neat = table-neat 16 0 n (λ i. field_at b (at + 10 + 2 * i)) few }
   entry_read k.Arrow h l f = record { count = 11; size = l; fields = arrow-read h f; neat = option-written (field_at b (at + 14)) }

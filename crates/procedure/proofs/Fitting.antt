@@ -1,5 +1,5 @@
 -- An entry whose fields are in range is sound.
-use Rattle.std.proofs.Common.{◌≡◌, ℕ, zero, suc, ◌+◌, ◌-◌, ◌*◌, ◌<◌, ◌≤◌, Bool, true, false, cond, not, ◌&&◌, ◌||◌, eqb, ltb, leb, List, get_or, refl, ap, ⊎_elim, arith}
+use Rattle.std.proofs.Common.{◌≡◌, ℕ, zero, suc, ◌+◌, ◌-◌, ◌*◌, ◌<◌, Bool, true, false, cond, not, ◌&&◌, ◌||◌, eqb, ltb, leb, List, get_or, refl, ap, ⊎_elim, arith}
 use Rattle.std.proofs.lemmas.Bool.{cases_eq, and_parts, and_from, or_cases, leb-true, eqb-true, eq-eqb, ne_eqb, not-true}
 use Rattle.notation.specs.Parts.{blank_state, is_absent}
 use Rattle.notation.specs.declared.arrow.Argument.TheVariants.{Absent, Constant, Outer, Inner}
@@ -9,7 +9,7 @@ use Rattle.record.specs.Ranges.{all_below, mark_fits, state_fits, states_fit, la
 use Rattle.record.specs.declared.kind.Kind.{Kind}
 use Rattle.record.specs.declared.kind.Kind.TheVariants as k
 use Rattle.record.proofs.Below.{all-as}
-use Rattle.procedure.proofs.Fields.{table_below}
+use Rattle.procedure.proofs.Fields.{table_length, table_below}
 use Rattle.procedure.specs.Sound.{mark_sound, states_sound, labels_sound, guard_sound, arrow_sound, entry_sound}
 
 mark-sound : (m c : ℕ) → mark_fits m c ≡ true → mark_sound (mark_of m) (unless_none c) ≡ true
@@ -32,21 +32,20 @@ states-sound b at h =
     let p = and_parts (leb 1 n) (leb n 32 && (ltb (field_at b (at + 6)) n && all_below n f)) h in
     let q = and_parts (leb n 32) (ltb (field_at b (at + 6)) n && all_below n f) p.1 in
     let r = and_parts (ltb (field_at b (at + 6)) n) (all_below n f) q.1 in
-    let most = leb-true n 32 q.0 in
-    rw (p.0, q.0, r.0)
-    (all-as f (λ i. mark_sound (get_or (states_at b at).table i blank_state).mark (get_or (states_at b at).table i blank_state).child) n
-    (λ i lt y. rw (table_below 32 blank_state n (λ j. state_at b (at + 8 + 4 * j)) most i lt) (mark-sound (field_at b (at + 8 + 4 * i)) (field_at b (at + 8 + 4 * i + 2)) y)) r.1)
+    rw (table_length 32 blank_state n (λ j. state_at b (at + 8 + 4 * j)), p.0, q.0, r.0)
+    (all-as f (λ i. mark_sound (get_or (states_at b at).table.items i blank_state).mark (get_or (states_at b at).table.items i blank_state).child) n
+    (λ i lt y. rw (table_below 32 blank_state n (λ j. state_at b (at + 8 + 4 * j)) i lt) (mark-sound (field_at b (at + 8 + 4 * i)) (field_at b (at + 8 + 4 * i + 2)) y)) r.1)
 
-label-sound : (b : List ℕ) (at i : ℕ) → field_at b (at + 8) ≤ 16 → i < field_at b (at + 8) → label_fits b at i ≡ true
-    → (leb (get_or (labels_at b at).table i 0) 255 && (eqb i 0 || ltb (get_or (labels_at b at).table (i - 1) 0) (get_or (labels_at b at).table i 0))) ≡ true
-label-sound b at zero most lt y =
+label-sound : (b : List ℕ) (at i : ℕ) → i < field_at b (at + 8) → label_fits b at i ≡ true
+    → (leb (get_or (labels_at b at).items i 0) 255 && (eqb i 0 || ltb (get_or (labels_at b at).items (i - 1) 0) (get_or (labels_at b at).items i 0))) ≡ true
+label-sound b at zero lt y =
     let p = and_parts (leb (field_at b (at + 10 + 2 * 0)) 255) (eqb 0 0 || ltb (field_at b (at + 8 + 2 * 0)) (field_at b (at + 10 + 2 * 0))) y in
-    and_from (leb (get_or (labels_at b at).table 0 0) 255) true (rw (table_below 16 0 (field_at b (at + 8)) (λ j. field_at b (at + 10 + 2 * j)) most 0 lt) p.0) refl
-label-sound b at (suc i) most lt y =
+    and_from (leb (get_or (labels_at b at).items 0 0) 255) true (rw (table_below 16 0 (field_at b (at + 8)) (λ j. field_at b (at + 10 + 2 * j)) 0 lt) p.0) refl
+label-sound b at (suc i) lt y =
     let f : ℕ → ℕ = λ j. field_at b (at + 10 + 2 * j) in
-    let here = table_below 16 0 (field_at b (at + 8)) f most (suc i) lt in
+    let here = table_below 16 0 (field_at b (at + 8)) f (suc i) lt in
     let back : suc i - 1 ≡ i = omega arith in
-    let before = table_below 16 0 (field_at b (at + 8)) f most i (omega arith) in
+    let before = table_below 16 0 (field_at b (at + 8)) f i (omega arith) in
     let same : field_at b (at + 8 + 2 * suc i) ≡ f i = ap (field_at b) (omega arith) in
     rw (here, back, before, ← same) y
 
@@ -54,9 +53,9 @@ labels-sound : (b : List ℕ) (at : ℕ) → labels_fit b at ≡ true → labels
 labels-sound b at h =
     let n = field_at b (at + 8) in
     let p = and_parts (leb n 16) (all_below n (label_fits b at)) h in
-    rw p.0
-    (all-as (label_fits b at) (λ i. leb (get_or (labels_at b at).table i 0) 255 && (eqb i 0 || ltb (get_or (labels_at b at).table (i - 1) 0) (get_or (labels_at b at).table i 0))) n
-    (λ i lt y. label-sound b at i (leb-true n 16 p.0) lt y) p.1)
+    rw (table_length 16 0 n (λ j. field_at b (at + 10 + 2 * j)), p.0)
+    (all-as (label_fits b at) (λ i. leb (get_or (labels_at b at).items i 0) 255 && (eqb i 0 || ltb (get_or (labels_at b at).items (i - 1) 0) (get_or (labels_at b at).items i 0))) n
+    (λ i lt y. label-sound b at i lt y) p.1)
 
 guard-sound : (g : ℕ) → guard_fits g ≡ true → guard_sound (unless_none g) ≡ true
 guard-sound g h =

@@ -1,12 +1,12 @@
 -- A list of fields is the record of one entry only.
-use Rattle.std.proofs.Common.{◌≡◌, ℕ, zero, suc, ◌*◌, Bool, true, false, cond, eqb, List, [], ◌∷◌, ◌++◌, length, get_or, take, drop, Some, None, Option, sym, refl, ap, ◌∙◌, arith}
+use Rattle.std.proofs.Common.{◌≡◌, ℕ, suc, ◌*◌, Bool, true, false, cond, eqb, List, [], ◌∷◌, ◌++◌, length, get_or, take, drop, Some, None, Option, sym, refl, ap, ◌∙◌, arith}
 use Rattle.std.proofs.lemmas.List.{append-nil, take_at, drop_at}
 use Rattle.std.proofs.lemmas.Bool.{cond-false, ne_eqb}
 use Rattle.notation.specs.Parts.{blank_state}
 use Rattle.notation.specs.declared.node.Mark.{Mark}
 use Rattle.notation.specs.declared.node.Mark.TheVariants.{Unmarked, Shallow, Deep}
 use Rattle.notation.specs.declared.node.State.{State}
-use Rattle.notation.specs.declared.node.Labels.{Labels}
+use Rattle.notation.specs.Tables.{Table}
 use Rattle.notation.specs.declared.node.Node.TheVariants.{Closure, Automaton, Sequence, Guard, Choice, Synchronisation, QuantifiedChoice, QuantifiedSynchronisation}
 use Rattle.notation.specs.declared.arrow.Arrow.{Arrow}
 use Rattle.notation.specs.declared.arrow.Argument.{Argument}
@@ -26,15 +26,15 @@ states_in [] = []
 states_in (m ∷ []) = []
 states_in (m ∷ c ∷ r) = record { mark = mark_of m; child = unless_none c } ∷ states_in r
 
-abbrev labels_in : List ℕ → Labels
-labels_in r = record { count = get_or r 0 0; table = padded 16 0 (drop 1 r) }
+abbrev labels_in : List ℕ → Table ℕ
+labels_in r = padded 16 0 (drop 1 r)
 
 abbrev argument_in : List ℕ → Argument
 argument_in r = argument_of (get_or r 0 0) (get_or r 1 0)
 
 abbrev entry_by : Option Kind → List ℕ → Entry
 entry_by None r = e.Node (Closure 0)
-entry_by (Some k.Automaton) r = e.Node (Automaton (record { count = get_or r 0 0; start = get_or r 1 0; table = padded 32 blank_state (states_in (drop 2 r)) }))
+entry_by (Some k.Automaton) r = e.Node (Automaton (record { start = get_or r 1 0; table = padded 32 blank_state (states_in (drop 2 r)) }))
 entry_by (Some k.Sequence) r = e.Node (Sequence (get_or r 0 0) (get_or r 1 0))
 entry_by (Some k.Closure) r = e.Node (Closure (get_or r 0 0))
 entry_by (Some k.Guard) r = e.Node (Guard (get_or r 0 0) (get_or r 1 0))
@@ -82,17 +82,16 @@ argument-behind (Constant v) r = refl
 argument-behind Outer r = refl
 argument-behind Inner r = refl
 
-states-again : (n : ℕ) (xs : List State) → ((i : ℕ) → Written (get_or xs i blank_state).child) → states_in (state_fields (take n xs)) ≡ take n xs
-states-again zero xs w = refl
-states-again (suc n) [] w = refl
-states-again (suc n) (x ∷ xs) w =
+states-again : (xs : List State) → ((i : ℕ) → Written (get_or xs i blank_state).child) → states_in (state_fields xs) ≡ xs
+states-again [] w = refl
+states-again (x ∷ xs) w =
     let m = mark-again x.mark in
     let o = option-again x.child (w 0) in
-    let r = states-again n xs (λ i. w (suc i)) in
+    let r = states-again xs (λ i. w (suc i)) in
     rw (m, o, r) refl
 
-labels-again : (s : Labels) → Neat 16 0 s.count s.table → labels_in (label_fields s) ≡ s
-labels-again s h = ap (λ t. record { count = s.count; table = t }) (neat-padded 16 0 s.count s.table h)
+labels-again : (s : Table ℕ) → Neat 16 0 s → labels_in (label_fields s) ≡ s
+labels-again s h = neat-padded 16 0 s h
 
 arrow-again : (a : Arrow) → Written a.guard → entry_of (fields_of (e.Arrow a)) ≡ e.Arrow a
 arrow-again a h =
@@ -107,8 +106,8 @@ arrow-again a h =
 -- the fields of an entry tell it
 pub entry-again : (x : Entry) → NeatEntry x → entry_of (fields_of x) ≡ x
 entry-again (e.Node (Automaton s)) h =
-    ap (λ t. e.Node (Automaton (record { count = s.count; start = s.start; table = t })))
-    (ap (padded 32 blank_state) (states-again s.count s.table h.1) ∙ neat-padded 32 blank_state s.count s.table h.0)
+    ap (λ t. e.Node (Automaton (record { start = s.start; table = t })))
+    (ap (padded 32 blank_state) (states-again s.table.items h.1) ∙ neat-padded 32 blank_state s.table h.0)
 entry-again (e.Node (Sequence first second)) h = refl
 entry-again (e.Node (Closure body)) h = refl
 entry-again (e.Node (Guard guard body)) h = refl

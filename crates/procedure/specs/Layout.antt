@@ -1,10 +1,10 @@
 -- How a file lays out a drawing: the records of its nodes and arrows, one after the other.
-use Rattle.std.specs.Prelude.{◌≡◌, ℕ, ◌+◌, ◌*◌, ◌≤◌, cond, List, [], ◌∷◌, ◌++◌, length, get_or, take, Some, None, Option, slice_index_or}
+use Rattle.std.specs.Prelude.{◌≡◌, ℕ, ◌+◌, ◌-◌, ◌*◌, ◌≤◌, cond, List, [], ◌∷◌, ◌++◌, length, get_or, replicate, Some, None, Option}
 use Rattle.notation.specs.Parts.{blank_state}
 use Rattle.notation.specs.declared.node.Mark.{Mark}
 use Rattle.notation.specs.declared.node.Mark.TheVariants.{Unmarked, Shallow, Deep}
 use Rattle.notation.specs.declared.node.State.{State}
-use Rattle.notation.specs.declared.node.Labels.{Labels}
+use Rattle.notation.specs.Tables.{Table}
 use Rattle.notation.specs.declared.node.Node.TheVariants.{Closure, Automaton, Sequence, Guard, Choice, Synchronisation, QuantifiedChoice, QuantifiedSynchronisation}
 use Rattle.notation.specs.declared.arrow.Argument.{Argument}
 use Rattle.notation.specs.declared.arrow.Argument.TheVariants.{Absent, Constant, Outer, Inner}
@@ -42,12 +42,12 @@ state_fields [] = []
 state_fields (s ∷ ss) = mark_field s.mark ∷ option_field s.child ∷ state_fields ss
 
 -- a set is its count and its labels
-abbrev pub label_fields : Labels → List ℕ
-label_fields s = s.count ∷ take s.count s.table
+abbrev pub label_fields : Table ℕ → List ℕ
+label_fields s = length s.items ∷ s.items
 
 -- the kind of an entry and the fields of its body
 abbrev pub fields_of : Entry → List ℕ
-fields_of (e.Node (Automaton s)) = 1 ∷ s.count ∷ s.start ∷ state_fields (take s.count s.table)
+fields_of (e.Node (Automaton s)) = 1 ∷ length s.table.items ∷ s.start ∷ state_fields s.table.items
 fields_of (e.Node (Sequence first second)) = 2 ∷ first ∷ second ∷ []
 fields_of (e.Node (Closure body)) = 3 ∷ body ∷ []
 fields_of (e.Node (Guard guard body)) = 4 ∷ guard ∷ body ∷ []
@@ -69,10 +69,9 @@ records_of [] = []
 records_of (x ∷ xs) = record_of x ++ records_of xs
 
 -- a table of `size` places has no more than that in use, and the others are blank
-pub record Neat {X : Type 0} (size : ℕ) (blank : X) (count : ℕ) (table : List X) : Type 0 where
-  pub long : length table ≡ size
-  pub fits : count ≤ size
-  pub past : (k : ℕ) → count ≤ k → slice_index_or table k blank ≡ blank
+pub record Neat {X : Type 0} (size : ℕ) (blank : X) (t : Table X) : Type 0 where
+  pub fits : length t.items ≤ size
+  pub past : t.spare ≡ replicate (size - length t.items) blank
 
 -- 65,535 stands for none, so it is nobody's number
 abbrev pub Written : Option ℕ → Type 0
@@ -81,14 +80,14 @@ Written (Some k) = k ≡ 65535 → ⊥
 
 -- an entry as a file can lay it out: blank where nothing is in use, and 65,535 nowhere as a number
 abbrev pub NeatEntry : Entry → Type 0
-NeatEntry (e.Node (Automaton s)) = Neat 32 blank_state s.count s.table × ((k : ℕ) → Written (get_or s.table k blank_state).child)
+NeatEntry (e.Node (Automaton s)) = Neat 32 blank_state s.table × ((k : ℕ) → Written (get_or s.table.items k blank_state).child)
 NeatEntry (e.Node (Sequence first second)) = Unit {0}
 NeatEntry (e.Node (Closure body)) = Unit {0}
 NeatEntry (e.Node (Guard guard body)) = Unit {0}
 NeatEntry (e.Node (Choice left right)) = Unit {0}
-NeatEntry (e.Node (Synchronisation left right labels)) = Neat 16 0 labels.count labels.table
+NeatEntry (e.Node (Synchronisation left right labels)) = Neat 16 0 labels
 NeatEntry (e.Node (QuantifiedChoice over body)) = Unit {0}
-NeatEntry (e.Node (QuantifiedSynchronisation over body labels)) = Neat 16 0 labels.count labels.table
+NeatEntry (e.Node (QuantifiedSynchronisation over body labels)) = Neat 16 0 labels
 NeatEntry (e.Arrow a) = Written a.guard
 
 -- the same of each entry

@@ -1,5 +1,5 @@
 -- What a procedure holds, and how it relates to the file that it was read from.
-use Rattle.std.specs.Prelude.{◌≡◌, ℕ, true, List, length, take, is_ok, Ok, Err, Result}
+use Rattle.std.specs.Prelude.{◌≡◌, ℕ, true, List, length, is_ok, Ok, Err, Result}
 use Rattle.fault.specs.declared.fault.Fault.{Fault}
 use Rattle.procedure.specs.Drawings.{Drawing}
 use Rattle.procedure.specs.Layout.{Lays}
@@ -8,7 +8,7 @@ use Rattle.procedure.specs.declared.procedure.Procedure.{Procedure}
 
 -- its nodes and arrows, in file order
 abbrev pub drawing : Procedure → Drawing
-drawing p = record { nodes = take p.node_count p.nodes; arrows = take p.arrow_count p.arrows }
+drawing p = record { nodes = p.nodes.items; arrows = p.arrows.items }
 
 -- one implies the other, both ways
 pub record Exactly (P Q : Type 0) : Type 0 where

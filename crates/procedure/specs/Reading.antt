@@ -1,5 +1,5 @@
 -- Reading a file: the questions in the order in which they are asked, and what a file gives that answers yes to all.
-use Rattle.std.specs.Prelude.{ℕ, zero, suc, ◌+◌, Bool, true, false, cond, ◌&&◌, List, [], ◌∷◌, ◌++◌, length, Some, None, Ok, Err, Option, Result, nat_le, nat_lt, slice_index_or}
+use Rattle.std.specs.Prelude.{◌≡◌, ℕ, zero, suc, ◌+◌, Bool, true, false, cond, ◌&&◌, List, [], ◌∷◌, ◌++◌, length, Some, None, Ok, Err, Option, Result, MatchResult, nat_le, nat_lt, slice_index_or}
 use Rattle.fault.specs.Asking.{Asked, refusal, asked_up_to, AllYes, FirstNo, answer_or}
 use Rattle.fault.specs.declared.fault.Fault.{Fault}
 use Rattle.fault.specs.declared.fault.Question.TheVariants.{FileWithinLimit, FieldsInRange, ChildrenFree, ArrowPlaced, OneRoot, BindersFew, VariablesInScope}
@@ -75,6 +75,12 @@ entry_asks d place fits x =
     record { question = FieldsInRange; place = place; yes = fits && few (grown d x) }
     ∷ record { question = ChildrenFree; place = place; yes = entry_free d.nodes x }
     ∷ record { question = ArrowPlaced; place = place; yes = entry_placed d.nodes x } ∷ []
+
+-- an entry joined a drawing, all questions of it answered yes; or one was answered no, and that was the refusal
+abbrev pub Admitted : Drawing → ℕ → Entry → Result (Unit {0}) Fault → Drawing → Type 0
+Admitted before place x r after =
+    MatchResult r (λ _. (after ≡ grown before (Some x)) × (refusal (entry_asks before place true (Some x)) ≡ None))
+    (λ f. refusal (entry_asks before place true (Some x)) ≡ Some f)
 
 -- questions 2 to 7 of the record at `at`, whose number is the place, and which comes after a drawing
 abbrev pub record_asks : List ℕ → ℕ → ℕ → Drawing → List Asked

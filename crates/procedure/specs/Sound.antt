@@ -4,7 +4,7 @@ use Rattle.notation.specs.Parts.{children_of, is_absent, blank_state, blank_node
 use Rattle.notation.specs.declared.node.Mark.{Mark}
 use Rattle.notation.specs.declared.node.Mark.TheVariants.{Unmarked, Shallow, Deep}
 use Rattle.notation.specs.declared.node.States.{States}
-use Rattle.notation.specs.declared.node.Labels.{Labels}
+use Rattle.notation.specs.Tables.{Table}
 use Rattle.notation.specs.declared.node.Node.{Node}
 use Rattle.notation.specs.declared.node.Node.TheVariants.{Closure, Automaton, Sequence, Guard, Choice, Synchronisation, QuantifiedChoice, QuantifiedSynchronisation}
 use Rattle.notation.specs.declared.arrow.Arrow.{Arrow}
@@ -22,14 +22,14 @@ mark_sound Deep child = is_some child
 -- 1 to 32 states, the start among them
 abbrev pub states_sound : States → Bool
 states_sound s =
-    nat_le 1 s.count && (nat_le s.count 32 && (nat_lt s.start s.count
-    && all_below s.count (λ i. mark_sound (get_or s.table i blank_state).mark (get_or s.table i blank_state).child)))
+    nat_le 1 (length s.table.items) && (nat_le (length s.table.items) 32 && (nat_lt s.start (length s.table.items)
+    && all_below (length s.table.items) (λ i. mark_sound (get_or s.table.items i blank_state).mark (get_or s.table.items i blank_state).child)))
 
 -- at most 16 labels, each at most 255, rising
-abbrev pub labels_sound : Labels → Bool
+abbrev pub labels_sound : Table ℕ → Bool
 labels_sound s =
-    nat_le s.count 16
-    && all_below s.count (λ i. nat_le (slice_index s.table i) 255 && (i == 0 || nat_lt (slice_index s.table (i - 1)) (slice_index s.table i)))
+    nat_le (length s.items) 16
+    && all_below (length s.items) (λ i. nat_le (slice_index s.items i) 255 && (i == 0 || nat_lt (slice_index s.items (i - 1)) (slice_index s.items i)))
 
 -- the parts of a node are in range
 abbrev pub node_sound : Node → Bool

@@ -1,29 +1,23 @@
-ghost use Rattle.std.specs.Prelude.{◌≡◌, ◌+◌, ◌<◌, true, Some, None, MatchResult, slice_index_or};
-ghost use Rattle.fault.specs.Asking.{refusal};
+ghost use Rattle.std.specs.Prelude.{◌≡◌, true, slice_index_or};
 ghost use Rattle.notation.specs.Parts.{states_of, blank_node};
 ghost use Rattle.record.specs.declared.entry.Entry.TheVariants.{Node as of_node, Arrow as of-arrow};
-ghost use Rattle.procedure.specs.Drawings.{nothing_drawn, grown};
-ghost use Rattle.procedure.specs.Drafts.{drawn, Faithful};
-ghost use Rattle.procedure.specs.Reading.{entry_asks};
+ghost use Rattle.procedure.specs.Drawings.{nothing_drawn};
+ghost use Rattle.procedure.specs.Reading.{Admitted};
 ghost use Rattle.procedure.specs.Scopes.{arrow_placed};
 ghost use Rattle.procedure.specs.Sound.{node_sound, arrow_sound, entry_sound};
 
-use crate::claim::claim_children;
+use crate::claim::Claims;
 use crate::draft::Draft;
 use fault::fault::{Fault, Question};
 use notation::arrow::{Argument, Arrow};
 use notation::node::Node;
+use notation::table::Table;
 use record::entry::Entry;
-
-const MOST_NODES: usize = 64;
-
-const MOST_ARROWS: usize = 256;
 
 impl Draft {
     /// A draft that holds nothing.
     pub(crate) fn empty() -> Draft
-        ensures faithful { Faithful result }
-        ensures empty { drawn result ≡ nothing_drawn }
+        ensures { result ≡ nothing_drawn }
     {
         let arrow = Arrow {
             node: 0,
@@ -36,76 +30,68 @@ impl Draft {
             second: Argument::Absent,
         };
         Draft {
-            nodes: [Node::Closure { body: 0 }; 64],
-            node_count: 0,
-            arrows: [arrow; 256],
-            arrow_count: 0,
+            nodes: Table::new(Node::Closure { body: 0 }),
+            arrows: Table::new(arrow),
             parents: [None; 64],
         }
     }
 
     /// Questions 5 and 6 of a node after the others, as far as they are still open.
     fn admit_node(&mut self, node: Node, place: usize) -> Result<(), Fault>
-        requires { (Faithful self.old) × (node_sound node ≡ true) }
-        ensures { MatchResult result
-            (λ _. Faithful self.new × (drawn self.new ≡ grown (drawn self.old) (Some (of_node node))) × (refusal (entry_asks (drawn self.old) place true (Some (of_node node))) ≡ None))
-            (λ f. refusal (entry_asks (drawn self.old) place true (Some (of_node node))) ≡ Some f) }
+        requires { node_sound node ≡ true }
+        ensures { Admitted self.old place (of_node node) result self.new }
     {
-        let number = self.node_count;
-        if number >= MOST_NODES {
+        if self.nodes.is_full() {
             return Err(Question::FieldsInRange.at(place));
         }
-        claim_children(&mut self.parents, number as u16, &node, place)?;
-        self.nodes[number] = node;
-        self.node_count = number + 1;
+        let mut claims = Claims {
+            parents: self.parents,
+            node: self.nodes.len() as u16,
+            place,
+        };
+        claims.claim_children(&node)?;
+        self.parents = claims.parents;
+        self.nodes.push(node);
         Ok(())
     }
 
     /// The number of states of a node read so far, 0 where it is no automaton or not there.
-    fn states_of(&self, node: u16) -> u16
-        requires { Faithful self.now }
-        ensures { result ≡ states_of (slice_index_or (drawn self.now).nodes node blank_node) }
+    fn states_of(&self, node: u16) -> usize
+        ensures { result ≡ states_of (slice_index_or self.now.nodes node blank_node) }
     {
-        if node as usize >= self.node_count {
-            return 0;
+        match self.nodes.as_slice().get(usize::from(node)) {
+            Some(node) => node.states(),
+            None => 0,
         }
-        self.nodes[node as usize].states()
     }
 
     /// Question 7: the arrow names an automaton read so far, and two states of it.
     fn places(&self, arrow: &Arrow) -> bool
-        requires { Faithful self.now }
-        ensures { result ≡ arrow_placed (drawn self.now).nodes arrow.now }
+        ensures { result ≡ arrow_placed self.now.nodes arrow.now }
     {
         let states = self.states_of(arrow.node);
-        arrow.from < states && arrow.to < states
+        usize::from(arrow.from) < states && usize::from(arrow.to) < states
     }
 
     /// Questions 5 and 7 of an arrow after the others, as far as they are still open.
     fn admit_arrow(&mut self, arrow: Arrow, place: usize) -> Result<(), Fault>
-        requires { (Faithful self.old) × (arrow_sound arrow ≡ true) }
-        ensures { MatchResult result
-            (λ _. Faithful self.new × (drawn self.new ≡ grown (drawn self.old) (Some (of-arrow arrow))) × (refusal (entry_asks (drawn self.old) place true (Some (of-arrow arrow))) ≡ None))
-            (λ f. refusal (entry_asks (drawn self.old) place true (Some (of-arrow arrow))) ≡ Some f) }
+        requires { arrow_sound arrow ≡ true }
+        ensures { Admitted self.old place (of-arrow arrow) result self.new }
     {
-        let number = self.arrow_count;
-        if number >= MOST_ARROWS {
+        if self.arrows.is_full() {
             return Err(Question::FieldsInRange.at(place));
         }
         if !self.places(&arrow) {
             return Err(Question::ArrowPlaced.at(place));
         }
-        self.arrows[number] = arrow;
-        self.arrow_count = number + 1;
+        self.arrows.push(arrow);
         Ok(())
     }
 
     /// What a record tells joins the draft, or is refused.
     pub(crate) fn admit(&mut self, entry: Entry, place: usize) -> Result<(), Fault>
-        requires { (Faithful self.old) × (entry_sound entry ≡ true) }
-        ensures { MatchResult result
-            (λ _. Faithful self.new × (drawn self.new ≡ grown (drawn self.old) (Some entry)) × (refusal (entry_asks (drawn self.old) place true (Some entry)) ≡ None))
-            (λ f. refusal (entry_asks (drawn self.old) place true (Some entry)) ≡ Some f) }
+        requires { entry_sound entry ≡ true }
+        ensures { Admitted self.old place entry result self.new }
     {
         match entry {
             Entry::Node(node) => self.admit_node(node, place),

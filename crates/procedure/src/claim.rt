@@ -1,93 +1,66 @@
-ghost use Rattle.std.specs.Prelude.{◌≡◌, ◌*◌, ◌<◌, ◌≤◌, true, [], ◌∷◌, length};
-ghost use Rattle.std.specs.Option.{option_to_list};
+ghost use Rattle.std.specs.Prelude.{◌≤◌, [], ◌∷◌, length};
 ghost use Rattle.notation.specs.Parts.{children_of, children_of_states};
-ghost use Rattle.procedure.specs.Claims.{claims, Claimed};
-ghost use Rattle.procedure.specs.Sound.{node_sound};
 
 use fault::fault::{Fault, Question};
 use notation::node::{Node, State};
 
-/// Node `node` claims one child.
-fn claim(parents: &mut [Option<u16>], node: u16, child: u16, place: usize) -> Result<(), Fault>
-    requires { node ≤ length parents.old }
-    ensures { Claimed (claims node parents.old (child ∷ [])) place result parents.new }
-{
-    if child >= node || parents[child as usize].is_some() {
-        return Err(Question::ChildrenFree.at(place));
+/// The claims of a node that is to have the number `node`, made in a copy of the draft's table: a refusal leaves the draft as it was.
+#[derive(Clone, Copy)]
+pub(crate) struct Claims {
+    pub(crate) parents: [Option<u16>; 64],
+    pub(crate) node: u16,
+    /// The number of the node's record.
+    pub(crate) place: usize,
+    ghost fits: { node ≤ length parents },
+}
+
+impl Claims {
+    ghost use Rattle.procedure.specs.Claims.{Claimed};
+
+    /// Claims one child.
+    fn claim(&mut self, child: u16) -> Result<(), Fault>
+        ensures { Claimed self.old (child ∷ []) result self.new }
+    {
+        if child >= self.node || self.parents[usize::from(child)].is_some() {
+            return Err(Question::ChildrenFree.at(self.place));
+        }
+        self.parents[usize::from(child)] = Some(self.node);
+        Ok(())
     }
-    parents[child as usize] = Some(node);
-    Ok(())
-}
 
-fn claim_two(
-    parents: &mut [Option<u16>],
-    node: u16,
-    one: u16,
-    other: u16,
-    place: usize,
-) -> Result<(), Fault>
-    requires { node ≤ length parents.old }
-    ensures { Claimed (claims node parents.old (one ∷ other ∷ [])) place result parents.new }
-{
-    claim(parents, node, one, place)?;
-    claim(parents, node, other, place)
-}
-
-/// Claims a state's child, if it has one.
-fn claim_present(
-    parents: &mut [Option<u16>],
-    node: u16,
-    child: Option<u16>,
-    place: usize,
-) -> Result<(), Fault>
-    requires { node ≤ length parents.old }
-    ensures { Claimed (claims node parents.old (option_to_list child)) place result parents.new }
-{
-    match child {
-        Some(child) => claim(parents, node, child, place),
-        None => Ok(()),
+    fn claim_two(&mut self, one: u16, other: u16) -> Result<(), Fault>
+        ensures { Claimed self.old (one ∷ other ∷ []) result self.new }
+    {
+        self.claim(one)?;
+        self.claim(other)
     }
-}
 
-/// Claims each child of an automaton's states.
-fn claim_states(
-    parents: &mut [Option<u16>],
-    node: u16,
-    states: &[State],
-    place: usize,
-) -> Result<(), Fault>
-    requires { node ≤ length parents.old }
-    ensures { Claimed (claims node parents.old (children_of_states states.now)) place result parents.new }
-{
-    for state in states {
-        claim_present(parents, node, state.child, place)?;
+    /// Claims each child of an automaton's states.
+    fn claim_states(&mut self, states: &[State]) -> Result<(), Fault>
+        ensures { Claimed self.old (children_of_states states.now) result self.new }
+    {
+        for state in states {
+            if let Some(child) = state.child {
+                self.claim(child)?;
+            }
+        }
+        Ok(())
     }
-    Ok(())
-}
 
-/// Question 6 of a node that is to have the number `node`.
-pub(crate) fn claim_children(
-    parents: &mut [Option<u16>],
-    node: u16,
-    from: &Node,
-    place: usize,
-) -> Result<(), Fault>
-    requires { (node ≤ length parents.old) × (node_sound from.now ≡ true) }
-    ensures { Claimed (claims node parents.old (children_of from.now)) place result parents.new }
-{
-    match from {
-        Node::Closure { body } => claim(parents, node, *body, place),
-        Node::Automaton { states } => claim_states(
-            parents,
-            node,
-            &states.table[0..states.count as usize],
-            place,
-        ),
-        Node::Sequence { first, second } => claim_two(parents, node, *first, *second, place),
-        Node::Guard { body, .. } => claim(parents, node, *body, place),
-        Node::Choice { left, right } => claim_two(parents, node, *left, *right, place),
-        Node::Synchronisation { left, right, .. } => claim_two(parents, node, *left, *right, place),
-        Node::QuantifiedChoice { body, .. } => claim(parents, node, *body, place),
-        Node::QuantifiedSynchronisation { body, .. } => claim(parents, node, *body, place),
+    /// Question 6: claims each child of the node.
+    pub(crate) fn claim_children(&mut self, node: &Node) -> Result<(), Fault>
+        ensures { Claimed self.old (children_of node.now) result self.new }
+    {
+        match node {
+            Node::Closure { body }
+            | Node::Guard { body, .. }
+            | Node::QuantifiedChoice { body, .. }
+            | Node::QuantifiedSynchronisation { body, .. } => self.claim(*body),
+            Node::Automaton { states } => self.claim_states(states.table.as_slice()),
+            Node::Sequence { first, second } => self.claim_two(*first, *second),
+            Node::Choice { left, right } | Node::Synchronisation { left, right, .. } => {
+                self.claim_two(*left, *right)
+            }
+        }
     }
 }

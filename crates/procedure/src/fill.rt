@@ -1,30 +1,50 @@
-ghost use Rattle.std.specs.Prelude.{◌≡◌, Some, None, MatchResult};
+ghost use Rattle.std.specs.Prelude.{◌≡◌, ◌+◌, ◌≤◌, Some, None, MatchResult};
 ghost use Rattle.fault.specs.Asking.{refusal};
-ghost use Rattle.procedure.specs.Drawings.{nothing_drawn};
-ghost use Rattle.procedure.specs.Drafts.{drawn, Faithful};
-ghost use Rattle.procedure.specs.Reading.{records, drawn_by, file_asks};
+ghost use Rattle.record.specs.Bytes.{field_at};
+ghost use Rattle.procedure.specs.Drawings.{nothing_drawn, grown};
+ghost use Rattle.procedure.specs.Reading.{records, drawn_by, file_asks, entry_here, record_asks};
 
 use crate::draft::Draft;
 use fault::fault::{Fault, Question};
+use record::record::Record;
 
 const MOST_BYTES: usize = 16_384;
 
 impl Draft {
+    /// Questions 2 to 7 of a record, whose entry joins the draft; gives what the file holds behind it.
+    fn read<'a>(&mut self, here: &Record<'a>) -> Result<Record<'a>, Fault>
+        requires { here.now.place ≤ here.now.at }
+        ensures { MatchResult result
+            (λ next. (self.new ≡ grown self.old (entry_here here.now.bytes.now here.now.at)) × (refusal (record_asks here.now.bytes.now here.now.at here.now.place self.old) ≡ None) × (next.bytes.now ≡ here.now.bytes.now) × (next.at ≡ here.now.at + 2 + field_at here.now.bytes.now here.now.at) × (next.place ≡ here.now.place + 1))
+            (λ f. refusal (record_asks here.now.bytes.now here.now.at here.now.place self.old) ≡ Some f) }
+    {
+        let frame = here.frame()?;
+        let entry = here.decode(frame.kind)?;
+        self.admit(entry, here.place)?;
+        Ok(Record {
+            bytes: here.bytes,
+            at: frame.end,
+            place: here.place + 1,
+        })
+    }
+
     /// Questions 1 to 7: reads one record after the other into an empty draft.
     pub(crate) fn fill(&mut self, bytes: &[u8]) -> Result<(), Fault>
-        requires { (Faithful self.old) × (drawn self.old ≡ nothing_drawn) }
+        requires { self.old ≡ nothing_drawn }
         ensures { MatchResult result
-            (λ _. Faithful self.new × (drawn self.new ≡ drawn_by bytes.now (records bytes.now)) × (refusal (file_asks bytes.now) ≡ None))
+            (λ _. (self.new ≡ drawn_by bytes.now (records bytes.now)) × (refusal (file_asks bytes.now) ≡ None))
             (λ f. refusal (file_asks bytes.now) ≡ Some f) }
     {
         if bytes.len() > MOST_BYTES {
             return Err(Question::FileWithinLimit.at(0));
         }
-        let mut at = 0;
-        let mut place = 0;
-        while at < bytes.len() {
-            at = self.step(bytes, at, place)?;
-            place += 1;
+        let mut here = Record {
+            bytes,
+            at: 0,
+            place: 0,
+        };
+        while here.at < bytes.len() {
+            here = self.read(&here)?;
         }
         Ok(())
     }

@@ -7,6 +7,5 @@ mod draft;
 mod fill;
 pub mod procedure;
 mod read;
-mod step;
 mod telling;
 mod whole;

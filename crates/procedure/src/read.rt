@@ -1,10 +1,9 @@
 ghost use Rattle.std.specs.Prelude.{◌≡◌, true, Some, None, MatchResult};
 ghost use Rattle.fault.specs.Asking.{refusal};
 ghost use Rattle.procedure.specs.Drawings.{nothing_drawn};
-ghost use Rattle.procedure.specs.Drafts.{drawn, Faithful};
 ghost use Rattle.procedure.specs.Procedures.{drawing, RefusedExactly, AcceptedExactly, LaidOutExactly};
 ghost use Rattle.procedure.specs.Reading.{records, drawn_by, asks, reading, answer_of, left_by};
-ghost use Rattle.procedure.specs.Sound.{sound};
+ghost use Rattle.procedure.specs.Sound.{whole_sound};
 
 use crate::draft::Draft;
 use crate::procedure::Procedure;
@@ -13,7 +12,7 @@ use fault::fault::Fault;
 /// All questions of a file, and what it draws.
 fn drafted(file: &[u8]) -> Result<Draft, Fault>
     ensures { MatchResult result
-        (λ d. Faithful d × (drawn d ≡ drawn_by file.now (records file.now)) × (refusal (asks file.now) ≡ None) × (sound (drawn d).nodes (drawn d).arrows ≡ true))
+        (λ d. (d ≡ drawn_by file.now (records file.now)) × (refusal (asks file.now) ≡ None) × (whole_sound d.nodes d.arrows ≡ true))
         (λ f. refusal (asks file.now) ≡ Some f) }
 {
     let mut draft = Draft::empty();
@@ -30,22 +29,14 @@ impl Procedure {
         Procedure::of(Draft::empty())
     }
 
+    /// What a whole draft holds. It asks that the draft is whole, as no `From` could.
     fn of(draft: Draft) -> Procedure
-        requires { (Faithful draft) × (sound (drawn draft).nodes (drawn draft).arrows ≡ true) }
-        ensures { drawing result ≡ drawn draft }
+        requires { whole_sound draft.nodes draft.arrows ≡ true }
+        ensures { drawing result ≡ draft }
     {
-        let Draft {
-            nodes,
-            node_count,
-            arrows,
-            arrow_count,
-            parents: _,
-        } = draft;
         Procedure {
-            nodes,
-            node_count,
-            arrows,
-            arrow_count,
+            nodes: draft.nodes,
+            arrows: draft.arrows,
         }
     }
 }
@@ -61,7 +52,7 @@ fn given(file: &[u8]) -> (Procedure, Result<usize, Fault>)
     match drafted(file) {
         Ok(draft) => {
             let procedure = Procedure::of(draft);
-            let nodes = procedure.node_count;
+            let nodes = procedure.node_count();
             (procedure, Ok(nodes))
         }
         Err(fault) => (Procedure::new(), Err(fault)),

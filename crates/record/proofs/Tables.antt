@@ -22,7 +22,6 @@ module _ {X : Type 0} (size : ℕ) (blank : X) (f : ℕ → X) where
   }
 
   pub filled-all : (n : ℕ) (t : Table X) → Filled size blank f n t → t ≡ tabled size blank n f
-  unfolding tabled
   filled-all n t h = ap (λ (p : List X × List X). let r : Table X = record { items = p.0; spare = p.1 } in r) (pair h.items h.spare)
     where
       pair : {a b : List X} {c d : List X} → a ≡ b → c ≡ d → ◌≡◌ {A = List X × List X} (a, c) (b, d)

@@ -30,7 +30,7 @@ abbrev pub argument_of : ℕ → ℕ → Argument
 argument_of c v = cond (c == 0) Absent (cond (c == 1) (Constant v) (cond (c == 2) Outer Inner))
 
 -- a table of `size` places that holds the n elements that f gives; the other places are blank
-unfoldable pub tabled : {X : Type 0} → ℕ → X → ℕ → (ℕ → X) → Table X
+abbrev pub tabled : {X : Type 0} → ℕ → X → ℕ → (ℕ → X) → Table X
 tabled size blank n f = record { items = map f (range_with_len 0 n); spare = replicate (size - n) blank }
 
 -- a state is a pair of fields, mark and child

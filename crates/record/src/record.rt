@@ -5,14 +5,14 @@ ghost use Rattle.fault.specs.declared.fault.Question.TheVariants.{RecordWhole};
 
 use fault::fault::{Fault, Question};
 
-/// The record that begins at `at` of a file. Its number is the place of its refusals.
+/// What a file holds from `at` on: the record that begins there, if any does. Its number is the place of its refusals.
 #[derive(Clone, Copy)]
 pub struct Record<'a> {
     pub bytes: &'a [u8],
     pub at: usize,
     pub place: usize,
     ghost short: { length bytes.now ≤ 16384 },
-    ghost begins: { at < length bytes.now },
+    ghost within: { at ≤ length bytes.now },
 }
 
 impl Record<'_> {

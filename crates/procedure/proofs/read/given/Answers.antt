@@ -1,6 +1,5 @@
-use Rattle.std.proofs.Common.{ℕ, Ok, Err, Result, ◌∙◌, arith}
+use Rattle.std.proofs.Common.{ℕ, Ok, Err, Result, ◌∙◌, sym}
 use Rattle.fault.specs.declared.fault.Fault.{Fault}
-use Rattle.std.proofs.lemmas.List.{length-take-le}
 use Rattle.procedure.specs.Procedures.{drawing}
 use Rattle.procedure.proofs.Readings.{refused-exactly, accepted-exactly, laid-out-exactly, read-refused, read-accepted}
 use Rattle.procedure.proofs.read.given.Goals as goal
@@ -21,10 +20,10 @@ returns-in-Err c =
 pub returns-in-Ok : goal.returns-in-Ok
 returns-in-Ok c =
     let b = c.args.file.now in
-    let r : Result ℕ Fault = Ok c.of-procedure.result.node_count in
+    let n = c.node_count-nodes.result in
+    let r : Result ℕ Fault = Ok n in
     let h = c.in-Ok.ensures in
-    let l = length-take-le c.of-procedure.result.node_count c.of-procedure.result.nodes (omega (arith, c.of-procedure.result.few, c.of-procedure.result.places)) in
-    let e = read-accepted b c.of-procedure.result.node_count (drawing c.of-procedure.result) h.2 (c.of-procedure.ensures ∙ h.1) l in
+    let e = read-accepted b n (drawing c.of-procedure.result) h.1 (c.of-procedure.ensures ∙ h.0) (sym c.node_count-nodes.ensures.counts_nodes) in
     record {
       answer = e.0;
       contents = e.1;

@@ -1,13 +1,15 @@
-use Rattle.std.proofs.Common.{arith}
+use Rattle.std.proofs.Common.{arith, rules}
 use Rattle.std.proofs.lemmas.Grind.{common_steps}
-use Rattle.procedure.proofs.Growing.{node-more, node-full, node-taken}
+use Rattle.procedure.proofs.Growing.{node-more, node-passes, node-taken}
 use Rattle.procedure.proofs.draft.Draft.admit_node.Goals as goal
-
-pub returns-then-number-ge-MOST_NODES : goal.returns-then-number-ge-MOST_NODES
-returns-then-number-ge-MOST_NODES c = grind (arith, common_steps, node-full)
 
 pub returns-in_err-claim_children : goal.returns-in_err-claim_children
 returns-in_err-claim_children c = grind (arith, common_steps, node-taken)
 
+pub invariant_of-self : goal.invariant_of-self
+invariant_of-self c = node-more c.self.inside c.args.node c.claim_children.new.self.parents c.args.place c.self.invariant c.requires (search rules) (search rules) c.push.new.self c.push.ensures.holds_one_more
+
 pub returns : goal.returns
-returns c = node-more c.args.self.now c.args.node c.claim_children.new.parents c.args.place c.requires.0 c.requires.1 (omega arith) c.in_ok-claim_children.ensures
+returns c =
+    let p = node-passes c.self.inside c.args.node c.claim_children.new.self.parents c.args.place c.self.invariant (search rules) (search rules) in
+    rw (← c.self.view_is) ((λ i. record { nodes = c.push.ensures.holds_one_more i; arrows = c.self.inside.arrows.items }), p)

@@ -1,29 +1,21 @@
-use Rattle.std.proofs.Common.{◌+◌, ◌-◌, sym, arith}
-use Rattle.procedure.specs.Drafts.{drawn}
-use Rattle.procedure.specs.Scopes.{binders_above}
-use Rattle.procedure.proofs.Growing.{nodes-length}
-use Rattle.procedure.proofs.Wholes.{parent-below, above_more, above-end, binder-small}
+use Rattle.std.proofs.Common.{rules, ◌≡◌, ◌+◌, ◌-◌, length, sym, ap, ◌∙◌, arith}
+use Rattle.procedure.specs.Drawings.{Drawing}
+use Rattle.procedure.specs.Scopes.{binder_at, binders_above}
+use Rattle.procedure.proofs.Wholes.{parent-below, above_more, binder-small}
 use Rattle.procedure.proofs.draft.Draft.binders_above.Goals as goal
 
-pub returns-in_default : goal.returns-in_default
-returns-in_default c =
-    above-end (drawn c.args.self.now).nodes (c.args.self.now.node_count - c.loop-step.step) c.loop-step.at c.loop-step.above (binders_above (drawn c.args.self.now).nodes c.args.node) (sym c.in_default.ensures) c.loop-step.invariant.0
-
-pub binder_at-above-requires : goal.binder_at-above-requires
-binder_at-above-requires c =
-    let l = nodes-length c.args.self.now c.requires.0 in
-    let p = parent-below (drawn c.args.self.now).nodes c.loop-step.at c.in-Some.parent (sym c.in-Some.ensures) in
-    (c.requires.0, omega arith)
+pub is_binder-requires : goal.is_binder-requires
+is_binder-requires c = rw c.from-at.ensures (parent-below c.args.self.now.nodes c.loop-step.at c.in-Some.parent (sym c.parent_of.ensures ∙ c.in-Some.is))
 
 pub loop-step-preserved : goal.loop-step-preserved
 loop-step-preserved c =
-    let ns = (drawn c.args.self.now).nodes in
-    let l = nodes-length c.args.self.now c.requires.0 in
-    let few = c.requires.0.few-nodes in
-    let p = parent-below ns c.loop-step.at c.in-Some.parent (sym c.in-Some.ensures) in
+    let ns = c.args.self.now.nodes in
+    let n : c.len-step-end.result ≡ length ns = c.len-step-end.ensures.counts ∙ ap (λ (d : Drawing). length d.nodes) c.self.view_is in
+    let up = sym c.parent_of.ensures ∙ c.in-Some.is in
+    let here : c.from-above.result ≡ binder_at ns c.in-Some.parent = search rules in
+    let p = parent-below ns c.loop-step.at c.in-Some.parent up in
     let s = binder-small ns c.in-Some.parent in (
-      above_more ns (c.args.self.now.node_count - c.loop-step.step) (c.args.self.now.node_count - (c.loop-step.step + 1)) c.loop-step.at c.in-Some.parent c.loop-step.above c.binder_at-above.result (binders_above ns c.args.node)
-          (omega arith) (sym c.in-Some.ensures) c.binder_at-above.ensures c.loop-step.invariant.0,
-      omega arith,
-      omega (arith, c.binder_at-above.ensures),
+      rw c.from-at.ensures (above_more ns (length ns - c.loop-step.step) (length ns - (c.loop-step.step + 1)) c.loop-step.at c.in-Some.parent c.loop-step.above c.from-above.result (binders_above ns c.args.node) (omega (arith, n, c.loop-step-test.true)) up here c.loop-step.invariant.0),
+      rw c.from-at.ensures p,
+      omega (arith, here, s),
     )

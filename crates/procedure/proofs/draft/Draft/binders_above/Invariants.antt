@@ -1,9 +1,8 @@
-use Rattle.std.proofs.Common.{◌≡◌, ◌+◌, ◌-◌, ◌<◌, ◌≤◌}
-use Rattle.procedure.specs.Drafts.{drawn}
+use Rattle.std.proofs.Common.{◌≡◌, ◌+◌, ◌-◌, ◌<◌, ◌≤◌, length}
 use Rattle.procedure.specs.Scopes.{binders_within, binders_above}
 use Rattle.procedure.proofs.draft.Draft.binders_above.Given as goal
 
 abbrev pub invariant-loop-step : goal.invariant-loop-step
 invariant-loop-step l =
-    (l.above + binders_within (l.self.node_count - l.step) (drawn l.self).nodes l.at ≡ binders_above (drawn l.self).nodes l.node)
-    × (l.at < 64) × (l.above ≤ l.step)
+    (l.above + binders_within (length l.self.nodes - l.step) l.self.nodes l.at ≡ binders_above l.self.nodes l.node)
+    × (l.at < length l.self.nodes) × (l.above ≤ l.step)

@@ -1,10 +1,10 @@
-use Rattle.std.proofs.Common.{◌-◌, length}
-use Rattle.procedure.specs.Drafts.{drawn, Faithful}
+use Rattle.std.proofs.Common.{◌≡◌, ◌-◌, length}
 use Rattle.procedure.proofs.Reached.{Reached}
 use Rattle.procedure.proofs.draft.Draft.fill.Given as goal
 
-abbrev pub invariant-loop-at : goal.invariant-loop-at
-invariant-loop-at l = Faithful l.self × Reached l.bytes l.place l.at (drawn l.self)
+-- the parts of `here` are bytes, place in the file and number, in that order
+abbrev pub invariant-loop-here : goal.invariant-loop-here
+invariant-loop-here l = (l.here.0.now ≡ l.bytes) × Reached l.bytes l.here.1.1.0 l.here.1.0 l.self
 
-abbrev pub decreases-loop-at : goal.decreases-loop-at
-decreases-loop-at l = length l.bytes - l.at
+abbrev pub decreases-loop-here : goal.decreases-loop-here
+decreases-loop-here l = length l.bytes - l.here.1.0
