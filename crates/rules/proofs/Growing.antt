@@ -1,6 +1,7 @@
 -- A node's tree is made of its children's trees, and it is sound.
 use Rattle.std.proofs.Common.{◌≡◌, refl, sym, ◌∙◌, ap, ap₂, subst, ℕ, zero, suc, ◌+◌, ◌<◌, ◌≤◌, cond, Bool, true, false, ◌&&◌, List, [], ◌∷◌, ◌++◌, take, length, Option, Some, None, ⊎_elim, ◌==◌, nat_lt, slice_index_or, not-suc-le-zero, add-zero, length-take-le, get_or-take, eqb-true, ltb-true, arith}
 use Rattle.std.proofs.lemmas.Bool.{and_parts}
+use Rattle.std.proofs.lemmas.List.{get_or_past}
 use Rattle.std.proofs.lemmas.Option.{get_or_from_slice_get}
 use Rattle.std.specs.List.{slice_get}
 use Rattle.std.specs.Option.{option_to_list}
@@ -71,16 +72,12 @@ child-same s t i h None b = refl
 child-same s t i h (Some j) b = h j (b j refl)
 
 state-child : (s : States) (q j : ℕ) → (state_of s q).child ≡ Some j → Memᴰ j (children_of (Automaton s))
-state-child s q j = at (nat_lt q s.count) refl
-  where
-    at : (b : Bool) → nat_lt q s.count ≡ b → (cond b (slice_index_or s.table q blank_state) blank_state).child ≡ Some j → Memᴰ j (children_of_states (take s.count s.table))
-    at true lt e = child-among (take s.count s.table) q j (ap (λ (x : State). x.child) (get_or-take s.count s.table q blank_state (ltb-true q s.count lt)) ∙ e)
-    at false lt e = let z : ◌≡◌ {A = ℕ} 0 1 = cc in absurd (omega arith)
+state-child s q j e = child-among s.table.items q j e
 
 node-same : (values : Values) (ws : List NumberedArrow) (s t : ℕ → Tree) (i : ℕ) → ((j : ℕ) → j < i → s j ≡ t j) → (n : Node) → Below i (children_of n) → node_tree values ws s n ≡ node_tree values ws t n
 node-same values ws s t i h (Closure body) b = ap closure (h body (b body (Memᴰ.head refl)))
 node-same values ws s t i h (Automaton st) b =
-    ap (λ f. automaton st.count st.start (λ q. (state_of st q).mark) f ws) (fun_ext (λ q. child-same s t i h (state_of st q).child (λ j e. b j (state-child st q j e))))
+    ap (λ f. automaton (length st.table.items) st.start (λ q. (state_of st q).mark) f ws) (fun_ext (λ q. child-same s t i h (state_of st q).child (λ j e. b j (state-child st q j e))))
 node-same values ws s t i h (Sequence first second) b = ap₂ sequence (h first (b first (Memᴰ.head refl))) (h second (b second (Memᴰ.tail (Memᴰ.head refl))))
 node-same values ws s t i h (Guard guard body) b = ap (guarded guard) (h body (b body (Memᴰ.head refl)))
 node-same values ws s t i h (Choice left right) b = ap₂ choice (h left (b left (Memᴰ.head refl))) (h right (b right (Memᴰ.tail (Memᴰ.head refl))))
@@ -145,12 +142,8 @@ arrows-end d s i n e w m =
     let q = ltb-true w.arrow.to (states_of (slice_index_or d.nodes w.arrow.node blank_node)) (and_parts _ _ p).1 in
     subst (λ (x : Node). w.arrow.to < states_of x) is (subst (λ (j : ℕ). w.arrow.to < states_of (slice_index_or d.nodes j blank_node)) o.node q)
 
-past-states : (t : ℕ → Tree) (s : States) (q : ℕ) → s.count ≤ q → child_tree t (state_of s q).child ≡ elementary
-past-states t s q h = at (nat_lt q s.count) refl
-  where
-    at : (b : Bool) → nat_lt q s.count ≡ b → child_tree t (cond b (slice_index_or s.table q blank_state) blank_state).child ≡ elementary
-    at true lt = let l = ltb-true q s.count lt in absurd (omega arith)
-    at false lt = refl
+past-states : (t : ℕ → Tree) (s : States) (q : ℕ) → length s.table.items ≤ q → child_tree t (state_of s q).child ≡ elementary
+past-states t s q h = ap (λ (x : State). child_tree t x.child) (get_or_past s.table.items q blank_state h)
 
 sound-child : (t : ℕ → Tree) → ((j : ℕ) → Sound (t j)) → (o : Option ℕ) → Sound (child_tree t o)
 sound-child t h None = tt
@@ -162,7 +155,7 @@ sound-node values ws t h (Automaton st) s a =
     let p = and_parts _ _ s in
     let q = and_parts _ _ p.1 in
     let r = and_parts _ _ q.1 in
-    (ltb-true st.start st.count r.0, a, past-states t st, λ k. sound-child t h (state_of st k).child)
+    (ltb-true st.start (length st.table.items) r.0, a, past-states t st, λ k. sound-child t h (state_of st k).child)
 sound-node values ws t h (Sequence first second) s a = (h first, h second)
 sound-node values ws t h (Guard guard body) s a = h body
 sound-node values ws t h (Choice left right) s a = (h left, h right)

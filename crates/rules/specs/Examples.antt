@@ -5,7 +5,7 @@ use Rattle.notation.specs.Parts.{blank_state}
 use Rattle.notation.specs.declared.node.Mark.{Mark}
 use Rattle.notation.specs.declared.node.Mark.TheVariants.{Unmarked, Shallow, Deep}
 use Rattle.notation.specs.declared.node.State.{State}
-use Rattle.notation.specs.declared.node.Labels.{Labels}
+use Rattle.notation.specs.Tables.{Table}
 use Rattle.notation.specs.declared.node.Node.{Node}
 use Rattle.notation.specs.declared.node.Node.TheVariants.{Closure, Automaton, Sequence, Guard, Choice, Synchronisation, QuantifiedChoice, QuantifiedSynchronisation}
 use Rattle.notation.specs.declared.arrow.Arrow.{Arrow}
@@ -29,7 +29,7 @@ use Rattle.rules.specs.Growing.{Values, tree_of}
 
 -- an automaton that starts in a state
 abbrev pub starting_in : ℕ → List State → Node
-starting_in q s = Automaton (record { count = length s; start = q; table = s })
+starting_in q s = Automaton (record { start = q; table = record { items = s; spare = [] } })
 
 -- one that starts in state 0
 abbrev pub states : List State → Node
@@ -64,8 +64,8 @@ abbrev pub guarded_arrow : ℕ → ℕ → ℕ → ℕ → ℕ → Arrow
 guarded_arrow node from to label guard = record { node = node; from = from; to = to; label = label; waits = false; guard = Some guard; first = Absent; second = Absent }
 
 -- a set of labels
-abbrev pub set_of : List ℕ → Labels
-set_of ls = record { count = length ls; table = ls }
+abbrev pub set_of : List ℕ → Table ℕ
+set_of ls = record { items = ls; spare = [] }
 
 -- an event without arguments
 abbrev pub bare : ℕ → Event

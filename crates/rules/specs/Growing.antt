@@ -1,10 +1,10 @@
 -- The tree that a node of a procedure stands for.
-use Rattle.std.specs.Prelude.{ℕ, zero, suc, cond, List, [], ◌∷◌, take, Option, Some, None, ◌==◌, nat_lt, slice_index_or}
+use Rattle.std.specs.Prelude.{ℕ, zero, suc, cond, List, [], ◌∷◌, length, Option, Some, None, ◌==◌, slice_index_or}
 use Rattle.std.specs.List.{slice_get}
 use Rattle.notation.specs.Parts.{blank_state}
 use Rattle.notation.specs.declared.node.State.{State}
 use Rattle.notation.specs.declared.node.States.{States}
-use Rattle.notation.specs.declared.node.Labels.{Labels}
+use Rattle.notation.specs.Tables.{Table}
 use Rattle.notation.specs.declared.node.Node.{Node}
 use Rattle.notation.specs.declared.node.Node.TheVariants.{Closure, Automaton, Sequence, Guard, Choice, Synchronisation, QuantifiedChoice, QuantifiedSynchronisation}
 use Rattle.notation.specs.declared.arrow.Arrow.{Arrow}
@@ -17,11 +17,11 @@ Values = ℕ → List ℕ
 
 -- the state of a number; a number that is no state's has no mark and no child
 abbrev pub state_of : States → ℕ → State
-state_of s q = cond (nat_lt q s.count) (slice_index_or s.table q blank_state) blank_state
+state_of s q = slice_index_or s.table.items q blank_state
 
 -- the labels of a set
-abbrev pub labels_of : Labels → List ℕ
-labels_of s = take s.count s.table
+abbrev pub labels_of : Table ℕ → List ℕ
+labels_of s = s.items
 
 -- the arrows of node i, each with its number; the first of the list has the number k
 abbrev pub arrows_of : ℕ → ℕ → List Arrow → List NumberedArrow
@@ -36,7 +36,7 @@ child_tree t (Some k) = t k
 -- the tree of a node, by the trees t of other nodes and by its arrows
 abbrev pub node_tree : Values → List NumberedArrow → (ℕ → Tree) → Node → Tree
 node_tree values arrows t (Closure body) = closure (t body)
-node_tree values arrows t (Automaton s) = automaton s.count s.start (λ q. (state_of s q).mark) (λ q. child_tree t (state_of s q).child) arrows
+node_tree values arrows t (Automaton s) = automaton (length s.table.items) s.start (λ q. (state_of s q).mark) (λ q. child_tree t (state_of s q).child) arrows
 node_tree values arrows t (Sequence first second) = sequence (t first) (t second)
 node_tree values arrows t (Guard guard body) = guarded guard (t body)
 node_tree values arrows t (Choice left right) = choice (t left) (t right)
