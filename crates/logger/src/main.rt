@@ -30,12 +30,15 @@ fn tell(rt: &HostRuntime, path: &str) -> anyhow::Result<ExitCode> {
             return Ok(ExitCode::FAILURE);
         }
     };
-    let report = reported(rt.alloc(), &bytes)?;
-    print!(rt; "{}", report.text)?;
-    if report.sound {
-        Ok(ExitCode::SUCCESS)
-    } else {
-        Ok(ExitCode::FAILURE)
+    match reported(rt.alloc(), &bytes)? {
+        Ok(text) => {
+            print!(rt; "{text}")?;
+            Ok(ExitCode::SUCCESS)
+        }
+        Err(text) => {
+            print!(rt; "{text}")?;
+            Ok(ExitCode::FAILURE)
+        }
     }
 }
 

@@ -1,7 +1,5 @@
 -- Items that are written one after another.
-use Rattle.std.proofs.Common.{◌≡◌, ℕ, ◌+◌, ◌<◌, List, [], ◌∷◌, ◌++◌, length, get_or, take, Some, sym, ap, ◌∙◌, append_assoc, append-nil, arith}
-use Rattle.std.specs.List.{slice_get}
-use Rattle.std.proofs.lemmas.Option.{slice_get-get_or}
+use Rattle.std.proofs.Common.{◌≡◌, ℕ, ◌+◌, ◌<◌, List, [], ◌∷◌, ◌++◌, length, get_or, take, sym, ap, ◌∙◌, append_assoc, append-nil, arith}
 use Rattle.std.proofs.lemmas.List.{take_more, length-take-le}
 use Rattle.text.specs.Texts.{each}
 
@@ -16,11 +14,3 @@ pub each_more : {X : Type 0} (text : ℕ → X → List ℕ) (n : ℕ) (xs : Lis
 each_more text n xs i d h =
     rw (take_more xs i d h)
     (each-push text n (take i xs) (get_or xs i d) ∙ ap (λ k. each text n (take i xs) ++ text (k + n) (get_or xs i d)) (length-take-le i xs (omega arith)))
-
--- the same from 0 on, with the item that a table tells
-pub each_told : {X : Type 0} (text : ℕ → X → List ℕ) (xs : List X) (i : ℕ) (x : X) → i < length xs → Some x ≡ slice_get xs i → each text 0 (take (i + 1) xs) ≡ each text 0 (take i xs) ++ text i x
-each_told text xs i x h e =
-    let s = slice_get-get_or xs i x h in
-    let same : get_or xs i x ≡ x = cc in
-    let z : i + 0 ≡ i = omega arith in
-    each_more text 0 xs i x h ∙ ap (λ k. each text 0 (take i xs) ++ text k (get_or xs i x)) z ∙ ap (λ y. each text 0 (take i xs) ++ text i y) same

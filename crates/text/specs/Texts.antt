@@ -1,10 +1,10 @@
 -- The texts that the program writes, as bytes of ASCII.
-use Rattle.std.specs.Prelude.{ℕ, ◌+◌, Bool, true, false, cond, List, [], ◌∷◌, ◌++◌, take, Some, None, codes, decimal, Option, ◌==◌}
+use Rattle.std.specs.Prelude.{ℕ, ◌+◌, Bool, true, false, cond, List, [], ◌∷◌, ◌++◌, Some, None, codes, decimal, Option, ◌==◌}
 use Rattle.notation.specs.Parts.{is_absent}
 use Rattle.notation.specs.declared.arrow.Argument.{Argument}
 use Rattle.notation.specs.declared.arrow.Argument.TheVariants.{Absent, Constant, Outer, Inner}
 use Rattle.notation.specs.declared.arrow.Arrow.{Arrow}
-use Rattle.notation.specs.declared.node.Labels.{Labels}
+use Rattle.notation.specs.Tables.{Table}
 use Rattle.notation.specs.declared.node.Mark.{Mark}
 use Rattle.notation.specs.declared.node.Mark.TheVariants.{Unmarked, Shallow, Deep}
 use Rattle.notation.specs.declared.node.Node.{Node}
@@ -50,8 +50,8 @@ labels_text [] = codes "no labels"
 labels_text (label ∷ labels) = codes "labels " ⌢ decimal label ⌢ each further_label 1 labels
 
 -- the labels that are in use
-abbrev pub label_set_text : Labels → List ℕ
-label_set_text labels = labels_text (take labels.count labels.table)
+abbrev pub label_set_text : Table ℕ → List ℕ
+label_set_text labels = labels_text labels.items
 
 -- states, each with its number: `states 0, 1 shallow, 2 deep child 3`
 abbrev pub text_of_mark : Mark → List ℕ
@@ -79,7 +79,7 @@ state_list_text (state ∷ states) = codes "states " ⌢ state_text 0 state ⌢ 
 
 -- the states that are in use
 abbrev pub states_text : States → List ℕ
-states_text states = state_list_text (take states.count states.table)
+states_text states = state_list_text states.table.items
 
 -- a node, and its line: `node 8: choice, left 6, right 7`
 abbrev pub node_text : Node → List ℕ

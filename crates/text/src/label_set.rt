@@ -1,7 +1,7 @@
 ghost use Rattle.std.specs.Prelude.{Some};
-ghost use Rattle.text.specs.Texts.{each, further_label, label_set_text};
+ghost use Rattle.text.specs.Texts.{further_label, label_set_text};
 
-use crate::table::front;
+use crate::each::{Each, Numbered};
 use notation::node::Labels;
 use std::fmt;
 
@@ -13,23 +13,28 @@ impl fmt::Display for LabelSet<'_> {
     ghost output = { λ x. Some (label_set_text x.0.now) };
 
     fn fmt<W: fmt::Write>(&self, f: &mut fmt::Formatter<W>) -> fmt::Result {
-        match front(&self.0.table, self.0.count) {
+        match self.0.as_slice() {
             [] => f.write_str("no labels"),
-            [label, rest @ ..] => write!(f, "labels {label}{}", FurtherLabels(rest)),
+            [label, rest @ ..] => {
+                let rest = Each {
+                    first: 1,
+                    elements: rest,
+                };
+                write!(f, "labels {label}{rest}")
+            }
         }
     }
 }
 
-#[derive(Clone, Copy)]
-struct FurtherLabels<'a>(&'a [u16]);
+/// A label behind another.
+impl Numbered for u16 {
+    ghost text = { further_label };
 
-impl fmt::Display for FurtherLabels<'_> {
-    ghost output = { λ x. Some (each further_label 1 x.0.now) };
-
-    fn fmt<W: fmt::Write>(&self, f: &mut fmt::Formatter<W>) -> fmt::Result {
-        for label in self.0 {
-            write!(f, ", {label}")?;
-        }
-        Ok(())
+    fn fmt_numbered<W: fmt::Write>(
+        &self,
+        _number: usize,
+        f: &mut fmt::Formatter<W>,
+    ) -> fmt::Result {
+        write!(f, ", {self}")
     }
 }

@@ -1,10 +1,13 @@
 ghost use Rattle.std.specs.Prelude.{Some};
 ghost use Rattle.procedure.specs.Procedures.{drawing};
-ghost use Rattle.text.specs.Reports.{node_lines, arrow_lines, listing};
+ghost use Rattle.text.specs.Reports.{node_row, arrow_row, listing};
 
 use crate::accepted_line::AcceptedLine;
 use crate::arrow_line::ArrowLine;
+use crate::each::{Each, Numbered};
 use crate::node_line::NodeLine;
+use notation::arrow::Arrow;
+use notation::node::Node;
 use procedure::procedure::Procedure;
 use std::fmt;
 
@@ -20,54 +23,39 @@ impl fmt::Display for Listing<'_> {
             nodes: self.0.node_count(),
             arrows: self.0.arrow_count(),
         };
-        write!(f, "{first}\n{}{}", NodeLines(self.0), ArrowLines(self.0))
+        let nodes = Each {
+            first: 0,
+            elements: self.0.nodes(),
+        };
+        let arrows = Each {
+            first: 0,
+            elements: self.0.arrows(),
+        };
+        write!(f, "{first}\n{nodes}{arrows}")
     }
 }
 
-#[derive(Clone, Copy)]
-struct NodeLines<'a>(&'a Procedure);
+/// A node's line, with its end.
+impl Numbered for Node {
+    ghost text = { node_row };
 
-impl fmt::Display for NodeLines<'_> {
-    ghost output = { λ x. Some (node_lines (drawing x.0.now)) };
-
-    fn fmt<W: fmt::Write>(&self, f: &mut fmt::Formatter<W>) -> fmt::Result {
-        for number in 0..self.0.node_count() {
-            let Some(node) = self.0.node(number) else {
-                return Ok(());
-            };
-            writeln!(
-                f,
-                "{}",
-                NodeLine {
-                    number,
-                    node: &node
-                }
-            )?;
-        }
-        Ok(())
+    fn fmt_numbered<W: fmt::Write>(&self, number: usize, f: &mut fmt::Formatter<W>) -> fmt::Result {
+        writeln!(f, "{}", NodeLine { number, node: self })
     }
 }
 
-#[derive(Clone, Copy)]
-struct ArrowLines<'a>(&'a Procedure);
+/// An arrow's line, with its end.
+impl Numbered for Arrow {
+    ghost text = { arrow_row };
 
-impl fmt::Display for ArrowLines<'_> {
-    ghost output = { λ x. Some (arrow_lines (drawing x.0.now)) };
-
-    fn fmt<W: fmt::Write>(&self, f: &mut fmt::Formatter<W>) -> fmt::Result {
-        for number in 0..self.0.arrow_count() {
-            let Some(arrow) = self.0.arrow(number) else {
-                return Ok(());
-            };
-            writeln!(
-                f,
-                "{}",
-                ArrowLine {
-                    number,
-                    arrow: &arrow
-                }
-            )?;
-        }
-        Ok(())
+    fn fmt_numbered<W: fmt::Write>(&self, number: usize, f: &mut fmt::Formatter<W>) -> fmt::Result {
+        writeln!(
+            f,
+            "{}",
+            ArrowLine {
+                number,
+                arrow: self
+            }
+        )
     }
 }

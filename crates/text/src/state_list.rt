@@ -1,7 +1,7 @@
 ghost use Rattle.std.specs.Prelude.{◌≡◌, Some};
-ghost use Rattle.text.specs.Texts.{each, text_of_mark, state_text, further_state, states_text};
+ghost use Rattle.text.specs.Texts.{text_of_mark, state_text, further_state, states_text};
 
-use crate::table::front;
+use crate::each::{Each, Numbered};
 use notation::node::{Mark, State, States};
 use std::fmt;
 
@@ -13,35 +13,33 @@ impl fmt::Display for StateList<'_> {
     ghost output = { λ x. Some (states_text x.0.now) };
 
     fn fmt<W: fmt::Write>(&self, f: &mut fmt::Formatter<W>) -> fmt::Result {
-        match front(&self.0.table, self.0.count) {
+        match self.0.table.as_slice() {
             [] => f.write_str("no states"),
             [state, rest @ ..] => {
                 let first = NumberedState {
                     number: 0,
                     state: *state,
                 };
-                write!(f, "states {first}{}", FurtherStates(rest))
+                let rest = Each {
+                    first: 1,
+                    elements: rest,
+                };
+                write!(f, "states {first}{rest}")
             }
         }
     }
 }
 
-/// States whose numbers begin at 1.
-#[derive(Clone, Copy)]
-struct FurtherStates<'a>(&'a [State]);
+/// A state behind another.
+impl Numbered for State {
+    ghost text = { further_state };
 
-impl fmt::Display for FurtherStates<'_> {
-    ghost output = { λ x. Some (each further_state 1 x.0.now) };
-
-    fn fmt<W: fmt::Write>(&self, f: &mut fmt::Formatter<W>) -> fmt::Result {
-        for (i, state) in self.0.iter().enumerate() {
-            let next = NumberedState {
-                number: i + 1,
-                state: *state,
-            };
-            write!(f, ", {next}")?;
-        }
-        Ok(())
+    fn fmt_numbered<W: fmt::Write>(&self, number: usize, f: &mut fmt::Formatter<W>) -> fmt::Result {
+        let state = NumberedState {
+            number,
+            state: *self,
+        };
+        write!(f, ", {state}")
     }
 }
 
