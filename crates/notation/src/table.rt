@@ -60,6 +60,7 @@ impl<T: Copy, const N: usize> Table<T, N> {
     /// Whether no further element has room.
     pub fn is_full(&self) -> bool
         ensures says_whether_full { result ≡ (length self.now.items == N) }
+        ensures fits { length self.now.items ≤ N }
     {
         self.len() == N
     }

@@ -1,3 +1,4 @@
+use notation::table::Table;
 use procedure::procedure::Procedure;
 
 /// What a reading tells: the number of nodes, or the question, the layer and the place of the refusal.
@@ -5,33 +6,28 @@ pub(crate) type Told = Result<usize, (u8, u8, usize)>;
 
 /// What a reading tells of these bytes.
 pub(crate) fn told_bytes(bytes: &[u8]) -> Told {
-    match Procedure::new().read(bytes) {
-        Ok(nodes) => Ok(nodes),
-        Err(fault) => Err((fault.number(), fault.layer().number(), fault.place())),
-    }
+    Procedure::new().read(bytes).map_err(|fault| (
+        fault.number(),
+        fault.layer().number(),
+        fault.place(),
+    ))
 }
 
 /// A file under test.
 #[derive(Clone, Copy)]
-pub(crate) struct File {
-    bytes: [u8; 8192],
-    len: usize,
-}
+pub(crate) struct File(Table<u8, 8192>);
 
 impl File {
     pub(crate) fn new() -> File {
-        File {
-            bytes: [0; 8192],
-            len: 0,
-        }
+        File(Table::new(0))
     }
 
     /// Appends a field, low byte first, if there is room.
     pub(crate) fn field(&mut self, value: u16) {
-        if self.len <= 8190 {
-            self.bytes[self.len] = (value % 256) as u8;
-            self.bytes[self.len + 1] = (value / 256) as u8;
-            self.len += 2;
+        for byte in value.to_le_bytes() {
+            if !self.0.is_full() {
+                self.0.push(byte);
+            }
         }
     }
 
@@ -44,7 +40,7 @@ impl File {
     }
 
     pub(crate) fn bytes(&self) -> &[u8] {
-        &self.bytes[0..self.len.min(8192)]
+        self.0.as_slice()
     }
 
     /// What a reading tells of the file.
