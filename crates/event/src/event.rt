@@ -1,5 +1,5 @@
 /// An event as a caller gives it: it may be out of form.
-#[derive(Clone, Copy)]
+#[derive(Clone, Copy, Debug, PartialEq, Eq, PartialOrd, Ord)]
 pub struct Event {
     pub label: u16,
     /// How many arguments it has.

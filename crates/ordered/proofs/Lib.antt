@@ -3,5 +3,4 @@ pub mod Fitted
 pub mod Laws
 pub mod Shifted
 pub mod Steps
-pub mod Then
 pub mod Used

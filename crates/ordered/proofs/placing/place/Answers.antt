@@ -7,7 +7,7 @@ use Rattle.ordered.proofs.placing.place.Given.{Over}
 use Rattle.ordered.proofs.placing.place.Goals as goal
 
 order : (g : Over) → Order g.T.Rank.rank
-order g = record { flip = g.met.T.Rank.flip; chain = g.met.T.Rank.chain; same = g.met.T.Rank.same }
+order g = record { flip = g.T.Rank.flip; chain = g.T.Rank.chain; same = g.T.Rank.same }
 
 pub returns : goal.returns
 returns g c =
