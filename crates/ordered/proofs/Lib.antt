@@ -1,6 +1,5 @@
 pub mod Alone
 pub mod Fitted
 pub mod Laws
-pub mod Shifted
+pub mod Moved
 pub mod Steps
-pub mod Used
