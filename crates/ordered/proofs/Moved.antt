@@ -1,7 +1,7 @@
 -- What turning a part of a list by one and writing its first element leaves.
 use Rattle.std.proofs.Common.{◌≡◌, ℕ, suc, ◌+◌, ◌-◌, ◌<◌, ◌≤◌, ◌++◌, List, [], ◌∷◌, length, take, drop, set, sym, ap, ◌∙◌, arith}
 use Rattle.std.proofs.Math.Seq.{take-append-add}
-use Rattle.std.proofs.lemmas.List.{drop-set-lt, length-take-le, length-drop, set_at, take_at, take-take}
+use Rattle.std.proofs.lemmas.List.{drop-set-lt, length-take-le, length-drop, set_at, take-append-le, take-take}
 use Rattle.std.proofs.lemmas.Slice.{drop-put_mid}
 use Rattle.std.specs.List.{insert}
 use borrow.Rule.Slice.PartMut.{put_mid}
@@ -12,27 +12,29 @@ module _ {X : Type 0} where
   written p (d ∷ []) ts post n x l h = set_at p d (ts ++ post) x n l
   written p (d ∷ e ∷ ds) ts post n x l h = absurd (omega arith)
 
-  module _ (s ys : List X) (at e : ℕ) (x : X) (some : at < e) (fits : e ≤ length s) where
+  -- the part has k elements from `at` on, and is read up to e
+  module _ (s ys : List X) (at k e : ℕ) (x : X) (some : at < e) (within : e ≤ at + k) (fits : at + k ≤ length s) where
     abbrev part : List X
-    part = take (e - at) (drop at s)
+    part = take k (drop at s)
 
-    long : length part ≡ e - at
-    long = length-take-le (e - at) (drop at s) (omega (arith, length-drop at s))
+    long : length part ≡ k
+    long = length-take-le k (drop at s) (omega (arith, length-drop at s))
 
-    pub leaves : (n : ℕ) → e ≤ n → length ys ≡ length part → drop n (set (put_mid at (e - at) s ys) at x) ≡ drop n s
-    leaves n le l = drop-set-lt n (put_mid at (e - at) s ys) at x (omega arith) ∙ drop-put_mid at (e - at) s ys n (omega arith) (omega arith) (l ∙ long)
-
-    pub puts : ys ≡ drop (length part - 1) part ++ take (length part - 1) part → take e (set (put_mid at (e - at) s ys) at x) ≡ take e (insert s at x)
+    pub puts : ys ≡ drop (length part - 1) part ++ take (length part - 1) part → take e (set (put_mid at k s ys) at x) ≡ take e (insert s at x)
     puts is =
         let j = length part - 1 in
-        let up : suc j ≡ e - at = omega (arith, long) in
+        let i = e - at - 1 in
         let low : length (take at s) ≡ at = length-take-le at s (omega arith) in
-        let to : length (take at s) + suc j ≡ e = omega arith in
-        let kept : take j part ≡ take j (drop at s) = take-take j (e - at) (drop at s) (omega arith) in
-        let cut = λ (zs : List X). rw to at (take-append-add (take at s) (x ∷ zs) (suc j)) in
-        let post = drop (e - at) (drop at s) in
+        let to : length (take at s) + suc i ≡ e = omega arith in
+        let all : length (take j part) ≡ j = length-take-le j part (omega arith) in
+        let cut = λ (zs : List X). rw to at (take-append-add (take at s) (x ∷ zs) (suc i)) in
+        let post = drop k (drop at s) in
         ap (λ (zs : List X). take e (set (take at s ++ (zs ++ post)) at x)) is
         ∙ ap (λ (zs : List X). take e zs) (written (take at s) (drop j part) (take j part) post at x low (omega (arith, long, length-drop j part)))
         ∙ cut (take j part ++ post)
-        ∙ ap (λ (zs : List X). take at s ++ x ∷ zs) (take_at (take j part) post j (length-take-le j part (omega arith)) ∙ kept)
+        ∙ ap (λ (zs : List X). take at s ++ x ∷ zs)
+        (take-append-le i (take j part) post (omega (arith, long)) ∙ take-take i j part (omega (arith, long)) ∙ take-take i k (drop at s) (omega (arith, long)))
         ∙ sym (cut (drop at s))
+
+  pub leaves : (s ys : List X) (at k n : ℕ) (x : X) → at < n → at + k ≤ n → at ≤ length s → length ys ≡ k → drop n (set (put_mid at k s ys) at x) ≡ drop n s
+  leaves s ys at k n x some within fits long = drop-set-lt n (put_mid at k s ys) at x some ∙ drop-put_mid at k s ys n within fits long

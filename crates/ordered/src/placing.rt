@@ -19,8 +19,8 @@ pub(crate) fn seek<T: Rank>(xs: &[T], x: &T) -> Result<usize, usize>
     Err(xs.len())
 }
 
-#[tactic(auto, using(crate::proofs::Moved::puts, crate::proofs::Moved::leaves))]
 /// Puts x at `at` among the places up to `end`, with the others one place up. The one before `end` is overwritten.
+#[tactic(auto, using(crate::proofs::Moved::puts, crate::proofs::Moved::leaves))]
 pub(crate) fn insert_at<T: Copy>(places: &mut [T], at: usize, end: usize, x: T)
     requires { (at ≤ end) × (end ≤ length places.old) }
     ensures puts { take end places.new ≡ take end (insert places.old at x) }
