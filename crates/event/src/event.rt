@@ -1,4 +1,5 @@
-/// An event as a caller gives it: it may be out of form.
+/// An event as a caller gives it, ordered by its fields. It may be out of form, and `in_form` tells at which field,
+/// so its count stands beside its values.
 #[derive(Clone, Copy, Debug, PartialEq, Eq, PartialOrd, Ord)]
 pub struct Event {
     pub label: u16,
