@@ -54,6 +54,7 @@ impl<'a, T: Rank + Copy> Ordered<'a, T> {
         ensures says { result ≡ (self.old.used == room self.old) }
         ensures keeps { self.new.places ≡ self.old.places }
     {
+        // not `min(self.used + 1)` of the room: that sum may wrap where elements have no size
         let full = self.used == self.places.len();
         if !full {
             self.used += 1;
