@@ -1,5 +1,6 @@
-/// An event as a caller gives it: it may be out of form.
-#[derive(Clone, Copy)]
+/// An event as a caller gives it, ordered by its fields. It may be out of form, and `in_form` tells at which field,
+/// so its count stands beside its values.
+#[derive(Clone, Copy, Debug, PartialEq, Eq, PartialOrd, Ord)]
 pub struct Event {
     pub label: u16,
     /// How many arguments it has.

@@ -30,21 +30,13 @@ impl Event {
     pub fn first_argument(&self) -> Option<u16>
         ensures tells_the_first_argument { result ≡ first_argument self.now }
     {
-        if self.count >= 1 {
-            Some(self.first)
-        } else {
-            None
-        }
+        (self.count >= 1).then_some(self.first)
     }
 
     /// Its second argument, absent where it has fewer than two.
     pub fn second_argument(&self) -> Option<u16>
         ensures tells_the_second_argument { result ≡ second_argument self.now }
     {
-        if self.count >= 2 {
-            Some(self.second)
-        } else {
-            None
-        }
+        (self.count >= 2).then_some(self.second)
     }
 }

@@ -1,23 +1,18 @@
+ghost use Rattle.std.specs.Prelude.{refl};
 ghost use Rattle.event.specs.Forms.{event_rank};
 ghost use Rattle.event.specs.Laws.{event_order};
 
 use crate::event::Event;
 use ordered::rank::Rank;
-use std::cmp::Ordering;
 
 impl Rank for Event {
     ghost rank = { event_rank };
+
+    ghost is_the_rank = { λ x y. refl };
 
     ghost flip = { event_order.flip };
 
     ghost chain = { event_order.chain };
 
     ghost same = { event_order.same };
-
-    fn compare(&self, other: &Event) -> Ordering {
-        let by_second = self.second.compare(&other.second);
-        let by_first = self.first.compare(&other.first).then(by_second);
-        let by_count = self.count.compare(&other.count).then(by_first);
-        self.label.compare(&other.label).then(by_count)
-    }
 }

@@ -6,6 +6,14 @@ use Rattle.std.proofs.lemmas.List.{take_all, length-take}
 use Rattle.std.specs.Ordering.{ordering_reverse}
 use Rattle.ordered.specs.Order.{by_rank, insert_ordered, kept, spills, Below, Rising, Order, HeldOrNew, StaysRising, HoldsNothingElse, HoldsExactly, LeavesOutAbove}
 
+-- what is promised of an insertion besides the definition's list
+pub record Promised {X : Type 0} (c : X → X → Ordering) (xs : List X) (x : X) (after : List X) (over : Bool) : Type 0 where
+  pub grows : length xs ≤ length after
+  pub rises : StaysRising c xs after
+  pub only : HoldsNothingElse xs x after
+  pub exactly : HoldsExactly xs x after over
+  pub above : LeavesOutAbove c xs x after
+
 module _ {X : Type 0} (c : X → X → Ordering) where
   below-insert : (w x : X) (xs : List X) → c w x ≡ Less → Below c w xs → Below c w (insert_ordered c xs x)
   below-insert w x [] h b = (h, tt)
@@ -68,9 +76,6 @@ module _ {X : Type 0} (c : X → X → Ordering) where
         | Greater ↦ omega arith
       ]
 
-  pub grows : (n : ℕ) (xs : List X) (x : X) → length xs ≤ n → length xs ≤ length (kept c n xs x)
-  grows n xs x fits = let h = longer xs x in omega (arith, length-take n (insert_ordered c xs x))
-
   module _ (o : Order c) where
     below-trans : (x y : X) (ys : List X) → c x y ≡ Less → Below c y ys → Below c x ys
     below-trans x y [] h b = tt
@@ -102,19 +107,18 @@ module _ {X : Type 0} (c : X → X → Ordering) where
         ] in
         go (c x w) refl
 
-    -- the promises of an insertion, of a list that was shown to be the one that the definition gives
-    module _ (n : ℕ) (xs : List X) (x : X) (after : List X) (is : after ≡ kept c n xs x) where
-      pub stays-rising : StaysRising c xs after
-      stays-rising r = rw is (rising-take n (insert_ordered c xs x) (rising-insert xs x r))
+    -- they hold of a list that was shown to be the one that the definition gives
+    module _ (n : ℕ) (xs : List X) (x : X) (after : List X) (over : Bool) (fits : length xs ≤ n) (is : after ≡ kept c n xs x) (is-over : over ≡ spills c n xs x) where
+      only : HoldsNothingElse xs x after
+      only y i = in-insert xs x y (in-take n (insert_ordered c xs x) y (rw is at i))
 
-      pub nothing-else : HoldsNothingElse xs x after
-      nothing-else y i = in-insert xs x y (in-take n (insert_ordered c xs x) y (rw is at i))
-
-      pub holds-exactly : (over : Bool) → over ≡ spills c n xs x → HoldsExactly xs x after over
-      holds-exactly over is-over none y =
-          let short : length (insert_ordered c xs x) ≤ n = ltb-false n (length (insert_ordered c xs x)) (sym is-over ∙ none) in
-          (nothing-else y, λ i. rw (is, take_all n (insert_ordered c xs x) short) (in-back xs x y i))
-
-      pub leaves-out-above : LeavesOutAbove c xs x after
-      leaves-out-above r y z i out j =
-          left-out n (insert_ordered c xs x) y z (rising-insert xs x r) (in-back xs x y i) (λ m. out (rw is m)) (rw is at j)
+      pub promised : Promised c xs x after over
+      promised = record {
+        grows = rw is (omega (arith, longer xs x, length-take n (insert_ordered c xs x)));
+        rises = λ r. rw is (rising-take n (insert_ordered c xs x) (rising-insert xs x r));
+        only = only;
+        exactly = λ none y.
+            let short : length (insert_ordered c xs x) ≤ n = ltb-false n (length (insert_ordered c xs x)) (sym is-over ∙ none) in
+            (only y, λ i. rw (is, take_all n (insert_ordered c xs x) short) (in-back xs x y i));
+        above = λ r y z i out j. left-out n (insert_ordered c xs x) y z (rising-insert xs x r) (in-back xs x y i) (λ m. out (rw is m)) (rw is at j);
+      }

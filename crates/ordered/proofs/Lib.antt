@@ -1,7 +1,5 @@
 pub mod Alone
 pub mod Fitted
 pub mod Laws
-pub mod Shifted
+pub mod Moved
 pub mod Steps
-pub mod Then
-pub mod Used

@@ -1,5 +1,5 @@
--- Where an element stands, or comes in, in a list that is searched from its front, and what moving elements up leaves.
-use Rattle.std.specs.Prelude.{◌≡◌, ℕ, ◌-◌, ◌<◌, ◌≤◌, cond, List, length, ◌==◌, nat_lt, slice_index_or}
+-- Where an element stands, or comes in, in a list that is searched from its front.
+use Rattle.std.specs.Prelude.{◌≡◌, ℕ, ◌<◌, ◌≤◌, List, length, slice_index_or}
 use Rattle.std.specs.declared.cmp.Ordering.TheVariants.{Less, Equal, Greater}
 use Rattle.std.specs.declared.cmp.Ordering.{Ordering}
 
@@ -18,7 +18,3 @@ pub record ComesAt {X : Type 0} (c : X → X → Ordering) (xs : List X) (x : X)
   pub there : i ≤ length xs
   pub past : AboveFirst c xs x i
   pub next : (d : X) → i < length xs → c x (slice_index_or xs i d) ≡ Less
-
--- what stands at k where x has come in at `at` and the elements from there on have moved up
-abbrev pub shifted_at : {X : Type 0} → List X → ℕ → X → ℕ → X → X
-shifted_at xs at x k d = cond (nat_lt k at) (slice_index_or xs k d) (cond (k == at) x (slice_index_or xs (k - 1) d))

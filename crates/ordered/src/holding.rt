@@ -1,10 +1,10 @@
-ghost use Rattle.std.specs.Prelude.{◌≡◌, ℕ, ◌≤◌, [], length, take};
+ghost use Rattle.std.specs.Prelude.{◌≡◌, ℕ, ◌+◌, ◌≤◌, ◌==◌, min, [], length, take};
 ghost use Rattle.std.specs.List.{slice_get};
 ghost use Rattle.ordered.specs.Held.{held, room, places_from};
 ghost use Rattle.ordered.specs.Order.{kept, spills, StaysRising, HoldsNothingElse, HoldsExactly, LeavesOutAbove};
 
 use crate::list::Ordered;
-use crate::placing::{count, place};
+use crate::placing::{insert_at, seek};
 use crate::rank::Rank;
 
 impl<'a, T: Rank + Copy> Ordered<'a, T> {
@@ -23,7 +23,7 @@ impl<'a, T: Rank + Copy> Ordered<'a, T> {
         ensures lends_these_places { result.places.now ≡ places.old }
         ensures keeps_its_lender { result.places.ghost_name ≡ places.entry.ghost_name }
     {
-        let used = count(places, len);
+        let used = len.min(places.len());
         Ordered { places, used }
     }
 
@@ -35,11 +35,31 @@ impl<'a, T: Rank + Copy> Ordered<'a, T> {
         self.used
     }
 
+    fn as_slice(&self) -> &[T]
+        ensures { result.now ≡ held self.now }
+    {
+        &self.places[0..self.used]
+    }
+
     /// The element at a position from 0, absent past the last.
     pub fn get(&self, position: usize) -> Option<T>
         ensures tells_the_element { result ≡ slice_get (held self.now) position }
     {
-        self.places[0..self.used].get(position).copied()
+        self.as_slice().get(position).copied()
+    }
+
+    /// Takes one more place into use. The answer is yes where all were.
+    fn grow(&mut self) -> bool
+        ensures counts { self.new.used ≡ min (room self.old) (self.old.used + 1) }
+        ensures says { result ≡ (self.old.used == room self.old) }
+        ensures keeps { self.new.places ≡ self.old.places }
+    {
+        // not `min(self.used + 1)` of the room: that sum may wrap where elements have no size
+        let full = self.used == self.places.len();
+        if !full {
+            self.used += 1;
+        }
+        full
     }
 
     /// Puts an element in, unless it is there. Where there is no room for all, the last is left out, and the answer is yes.
@@ -55,8 +75,11 @@ impl<'a, T: Rank + Copy> Ordered<'a, T> {
         ensures holds_exactly_old_and_new_unless_one_is_left_out { HoldsExactly (held self.old) x (held self.new) result }
         ensures leaves_out_only_what_is_above { LeavesOutAbove T.rank (held self.old) x (held self.new) }
     {
-        let (used, over) = place(self.places, self.used, x);
-        self.used = used;
-        over
+        let Err(at) = seek(self.as_slice(), &x) else {
+            return false;
+        };
+        let full = self.grow();
+        insert_at(self.places, at, self.used, x);
+        full
     }
 }

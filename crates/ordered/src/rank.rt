@@ -3,15 +3,13 @@ ghost use Rattle.std.specs.declared.cmp.Ordering.TheVariants.{Less, Equal};
 ghost use Rattle.std.specs.declared.cmp.Ordering.{Ordering};
 ghost use Rattle.std.specs.Ordering.{ordering_reverse};
 
-use std::cmp::Ordering;
-
-/// A total order.
-pub trait Rank: Sized {
+/// A total order in which equal values are the same.
+pub trait Rank: Ord {
     /// How the first stands to the second.
     ghost rank: { Self → Self → Ordering };
 
-    fn compare(&self, other: &Self) -> Ordering
-        ensures is_the_rank { result ≡ rank self.now other.now };
+    /// What `cmp` answers is that.
+    ghost is_the_rank: { (x y : Self) → Self.cmp x y ≡ rank x y };
 
     /// Turned round, the answer is the reverse.
     ghost flip: { (x y : Self) → rank x y ≡ ordering_reverse (rank y x) };

@@ -3,34 +3,28 @@ use event::event::Event;
 use ordered::list::Ordered;
 use row::row::Row;
 
-/// The labels at the first three positions.
-fn labels(list: &Ordered<Event>) -> [Option<u16>; 3] {
-    let mut labels = [None; 3];
-    for i in 0..3 {
-        if let Some(event) = list.get(i) {
-            labels[i] = Some(event.label);
-        }
-    }
-    labels
+/// The events at the first three positions.
+fn events(list: &Ordered<Event>) -> [Option<Event>; 3] {
+    [list.get(0), list.get(1), list.get(2)]
 }
 
 #[test]
 fn a_full_list_keeps_the_lowest(rt: HostRuntime) {
     let mut places = [plain(90), plain(91)];
     let mut list = Ordered::over(&mut places);
-    assert_eq!(rt; labels(&list), [None, None, None]);
+    assert_eq!(rt; events(&list), [None, None, None]);
     assert!(rt; !list.insert(plain(4)));
     assert!(rt; !list.insert(plain(2)));
-    assert_eq!(rt; labels(&list), [Some(2), Some(4), None]);
+    assert_eq!(rt; events(&list), [Some(plain(2)), Some(plain(4)), None]);
     assert!(rt; list.insert(plain(6)), "a larger one is left out");
-    assert_eq!(rt; labels(&list), [Some(2), Some(4), None]);
+    assert_eq!(rt; events(&list), [Some(plain(2)), Some(plain(4)), None]);
     assert!(rt; !list.insert(plain(4)), "an equal one changes nothing");
-    assert_eq!(rt; labels(&list), [Some(2), Some(4), None]);
+    assert_eq!(rt; events(&list), [Some(plain(2)), Some(plain(4)), None]);
     assert!(rt;
         list.insert(plain(1)),
         "a smaller one drives out the largest"
     );
-    assert_eq!(rt; labels(&list), [Some(1), Some(2), None]);
+    assert_eq!(rt; events(&list), [Some(plain(1)), Some(plain(2)), None]);
     assert_eq!(rt; list.len(), 2);
 }
 
@@ -41,9 +35,7 @@ fn later_places_stay(rt: HostRuntime) {
     assert!(rt; !list.insert(plain(7)));
     assert!(rt; !list.insert(plain(7)));
     assert_eq!(rt; list.len(), 1);
-    assert_eq!(rt; places[0].label, 7);
-    assert_eq!(rt; places[1].label, 91);
-    assert_eq!(rt; places[2].label, 92);
+    assert_eq!(rt; places, [plain(7), plain(91), plain(92)]);
 }
 
 #[test]
@@ -51,7 +43,10 @@ fn a_list_is_resumed(rt: HostRuntime) {
     let mut places = [plain(1), plain(5), plain(90)];
     let mut list = Ordered::resume(&mut places, 2);
     assert!(rt; !list.insert(plain(3)));
-    assert_eq!(rt; labels(&list), [Some(1), Some(3), Some(5)]);
+    assert_eq!(rt;
+        events(&list),
+        [Some(plain(1)), Some(plain(3)), Some(plain(5))]
+    );
     let all = Ordered::resume(&mut places, 7);
     assert_eq!(rt;
         all.len(),
@@ -64,42 +59,20 @@ fn a_list_is_resumed(rt: HostRuntime) {
 fn events_are_ordered_by_each_field(rt: HostRuntime) {
     let mut places = [plain(90); 3];
     let mut list = Ordered::over(&mut places);
-    let (label, first, second) = (8, 65535, 65535);
-    assert!(rt;
-        !list.insert(Event {
-            label,
-            count: 2,
-            first: 0,
-            second: 1,
-        })
+    let event = |count: u16, first: u16, second: u16| Event {
+        label: 8,
+        count,
+        first,
+        second,
+    };
+    assert!(rt; !list.insert(event(2, 0, 1)));
+    assert!(rt; !list.insert(event(1, 65535, 65535)));
+    assert!(rt; !list.insert(event(2, 0, 0)));
+    assert!(rt; list.insert(event(2, 1, 0)));
+    assert_eq!(rt;
+        places,
+        [event(1, 65535, 65535), event(2, 0, 0), event(2, 0, 1)]
     );
-    assert!(rt;
-        !list.insert(Event {
-            label,
-            count: 1,
-            first,
-            second,
-        })
-    );
-    assert!(rt;
-        !list.insert(Event {
-            label,
-            count: 2,
-            first: 0,
-            second: 0,
-        })
-    );
-    assert!(rt;
-        list.insert(Event {
-            label,
-            count: 2,
-            first: 1,
-            second: 0,
-        })
-    );
-    assert_eq!(rt; places[0].count, 1);
-    assert_eq!(rt; places[1].second, 0);
-    assert_eq!(rt; places[2].second, 1);
 }
 
 #[test]
@@ -114,7 +87,5 @@ fn rows_are_ordered_by_the_first_cell_that_differs(rt: HostRuntime) {
     assert!(rt; !list.insert(first));
     assert!(rt; !list.insert(last));
     assert!(rt; !list.insert(low));
-    assert_eq!(rt; places[0].cells[47], 0);
-    assert_eq!(rt; places[1].cells[47], 1);
-    assert_eq!(rt; places[2].cells[0], 1);
+    assert_eq!(rt; places, [low, last, first]);
 }

@@ -1,0 +1,73 @@
+use Rattle.std.proofs.Common.{◌≡◌, ℕ, ◌≤◌, false, List, length, take, refl, sym, ap, ◌∙◌, arith}
+use Rattle.std.proofs.lemmas.Bool.Decides.{nat_tests}
+use Rattle.std.proofs.lemmas.List.{take_all, length-take-le}
+use Rattle.std.specs.List.{insert}
+use Rattle.ordered.specs.Order.{Order, kept, spills, insert_ordered}
+use Rattle.ordered.specs.Seeking.{ComesAt}
+use Rattle.ordered.proofs.Fitted.{fitted, left-out}
+use Rattle.ordered.proofs.Laws.{Promised, promised}
+use Rattle.ordered.proofs.Steps.{comes, met}
+use Rattle.ordered.proofs.list.Ordered.insert.Given.{Over}
+use Rattle.ordered.proofs.list.Ordered.insert.Goals as goal
+
+order : (g : Over) → Order g.T.Rank.rank
+order g = record { flip = g.T.Rank.flip; chain = g.T.Rank.chain; same = g.T.Rank.same }
+
+pub returns-in_default : goal.returns-in_default
+returns-in_default g c =
+    let rank = g.T.Rank.rank in
+    let s : List g.row.T.Denot = c.args.self.now.places.now in
+    let used : ℕ = c.args.self.now.used in
+    let xs : List g.row.T.Denot = take used s in
+    let x = c.args.x in
+    let in-use : used ≤ length s = c.args.self.now.fits in
+    let fits : length xs ≤ length s = omega (arith, length-take-le used s in-use) in
+    let same : insert_ordered rank xs x ≡ xs = met rank x xs _ (rw c.as_slice.ensures at c.in_default.ensures) in
+    let is : xs ≡ kept rank (length s) xs x = rw same (sym (take_all (length s) xs fits)) in
+    let over : false ≡ spills rank (length s) xs x = rw same (grind (arith, nat_tests, fits)) in
+    let p : Promised rank xs x xs false = promised rank (order g) (length s) xs x xs false fits is over in
+    record {
+      holds_the_first_in_order = is;
+      says_whether_one_is_left_out = over;
+      leaves_later_places = λ n le. refl;
+      holds_no_fewer = p.grows;
+      keeps_its_room = refl;
+      keeps_its_lender = refl;
+      stays_rising = p.rises;
+      holds_nothing_else = p.only;
+      holds_exactly_old_and_new_unless_one_is_left_out = p.exactly;
+      leaves_out_only_what_is_above = p.above;
+    }
+
+pub returns : goal.returns
+returns g c =
+    let rank = g.T.Rank.rank in
+    let s : List g.row.T.Denot = c.args.self.now.places.now in
+    let used : ℕ = c.args.self.now.used in
+    let xs : List g.row.T.Denot = take used s in
+    let x = c.args.x in
+    let at = c.in-Err.at in
+    let end : ℕ = c.grow-full.new.self.used in
+    let t : List g.row.T.Denot = c.insert_at.new.places in
+    let in-use : used ≤ length s = c.args.self.now.fits in
+    let long : length xs ≡ used = length-take-le used s in-use in
+    let here : ComesAt rank xs x at = rw c.as_slice.ensures at c.in-Err.ensures in
+    let put : insert_ordered rank xs x ≡ insert xs at x = comes rank x xs at here in
+    let low : at ≤ used = omega (arith, here.there) in
+    let room : length t ≡ length s = rw c.grow-full.ensures.keeps at c.insert_at.auto.places in
+    let puts : take end t ≡ take end (insert s at x) = rw c.grow-full.ensures.keeps at c.insert_at.ensures.puts in
+    let is : take end t ≡ kept rank (length s) xs x = puts ∙ rw (c.grow-full.ensures.counts, put) (fitted s at used x low in-use) in
+    let over : c.grow-full.result ≡ spills rank (length s) xs x = c.grow-full.ensures.says ∙ rw put (left-out s at used x low in-use) in
+    let p : Promised rank xs x (take end t) c.grow-full.result = promised rank (order g) (length s) xs x (take end t) c.grow-full.result (omega arith) is over in
+    record {
+      holds_the_first_in_order = is;
+      says_whether_one_is_left_out = over;
+      leaves_later_places = λ n le. rw c.grow-full.ensures.keeps at c.insert_at.ensures.leaves n (omega (arith, length-take-le end t (omega (arith, c.grow-full.ensures.counts))));
+      holds_no_fewer = p.grows;
+      keeps_its_room = room;
+      keeps_its_lender = ap (λ p. p.ghost_name) c.grow-full.ensures.keeps;
+      stays_rising = p.rises;
+      holds_nothing_else = p.only;
+      holds_exactly_old_and_new_unless_one_is_left_out = p.exactly;
+      leaves_out_only_what_is_above = p.above;
+    }
