@@ -8,7 +8,8 @@ use Rattle.event.specs.Forms.{InForm, first_argument, second_argument, event_ran
 use Rattle.event.specs.Laws.{event_order}
 use Rattle.event.specs.declared.event.Event.{Event}
 use Rattle.host.specs.Meanings.{Meaning}
-use Rattle.rules.specs.Trees.{NumberedArrow, Tree, elementary, automaton, sequence, closure, guarded, choice, synchronisation, quantified_choice, quantified_synchronisation, Variables, no_variables, bound, Guards}
+use Rattle.host.specs.declared.variables.Variables.{Variables}
+use Rattle.rules.specs.Trees.{NumberedArrow, Tree, elementary, automaton, sequence, closure, guarded, choice, synchronisation, quantified_choice, quantified_synchronisation, no_variables, bound, Guards}
 use Rattle.rules.specs.Cells.{Cells, cell, width, has_value}
 use Rattle.rules.specs.Rules.{Motion, Carries, Step, OneMoves, AllMove}
 use Rattle.rules.specs.Rules.AutomatonRule.{aut-1, aut-6}

@@ -5,7 +5,8 @@ use mathlib.Core.List.{Memᴰ}
 use mathlib.Core.List.Memᴰ
 use Rattle.notation.specs.declared.arrow.Arrow.{Arrow}
 use Rattle.event.specs.declared.event.Event.{Event}
-use Rattle.rules.specs.Trees.{NumberedArrow, Tree, elementary, automaton, sequence, closure, guarded, choice, synchronisation, quantified_choice, quantified_synchronisation, Variables, bound, Guards, answer}
+use Rattle.host.specs.declared.variables.Variables.{Variables}
+use Rattle.rules.specs.Trees.{NumberedArrow, Tree, elementary, automaton, sequence, closure, guarded, choice, synchronisation, quantified_choice, quantified_synchronisation, bound, Guards}
 use Rattle.rules.specs.Cells.{Cells, cell, width}
 use Rattle.rules.specs.Rules.{Motion, in_set, Leads, AutomatonRule, SequenceRule, ClosureRule, GuardRule, ChoiceRule, SynchronisationRule, QuantifiedChoiceRule, OneMoves, AllMove, QuantifiedSynchronisationRule, Step}
 use Rattle.rules.specs.Rules.AutomatonRule.{aut-1, aut-6}
@@ -202,7 +203,7 @@ fits elementary g e v = record { sound = λ r r' m. Memᴰ.not-nil m; complete =
 fits (automaton count start mark child ws) g e v = automaton-fits (λ q. fits (child q) g e v) count child ws g e v
 fits (sequence a b) g e v = sequence-fits (fits a g e v) (fits b g e v)
 fits (closure b) g e v = closure-fits (fits b g e v)
-fits (guarded guard b) g e v = guard-fits (fits b g e v) (answer g guard v)
+fits (guarded guard b) g e v = guard-fits (fits b g e v) (g guard v)
 fits (choice a b) g e v = choice-fits (fits a g e v) (fits b g e v)
 fits (synchronisation labels a b) g e v = synchronisation-fits (fits a g e v) (fits b g e v) (in_set e.label labels)
 fits (quantified_choice xs b) g e v = quantified-choice-fits (λ x. fits b g e (bound x v)) xs b

@@ -4,7 +4,8 @@ use mathlib.Core.List.{Memᴰ}
 use Rattle.event.specs.Forms.{event_rank}
 use Rattle.event.specs.declared.event.Event.{Event}
 use Rattle.host.specs.Meanings.{Meaning}
-use Rattle.rules.specs.Trees.{NumberedArrow, Tree, elementary, automaton, sequence, closure, guarded, choice, synchronisation, quantified_choice, quantified_synchronisation, Variables, no_variables, bound, Guards, argument_of}
+use Rattle.host.specs.declared.variables.Variables.{Variables}
+use Rattle.rules.specs.Trees.{NumberedArrow, Tree, elementary, automaton, sequence, closure, guarded, choice, synchronisation, quantified_choice, quantified_synchronisation, no_variables, bound, Guards, argument_of}
 use Rattle.rules.specs.Cells.{Cells}
 use Rattle.rules.specs.Rules.{Carries}
 use Rattle.rules.specs.Chains.{answers_after}

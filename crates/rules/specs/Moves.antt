@@ -5,7 +5,8 @@ use Rattle.std.specs.List.{slice_get}
 use Rattle.notation.specs.declared.arrow.Arrow.{Arrow}
 use Rattle.event.specs.Forms.{first_argument, second_argument}
 use Rattle.event.specs.declared.event.Event.{Event}
-use Rattle.rules.specs.Trees.{NumberedArrow, Tree, elementary, automaton, sequence, closure, guarded, choice, synchronisation, quantified_choice, quantified_synchronisation, Variables, bound, Guards, answer, guard_holds, argument_of}
+use Rattle.host.specs.declared.variables.Variables.{Variables}
+use Rattle.rules.specs.Trees.{NumberedArrow, Tree, elementary, automaton, sequence, closure, guarded, choice, synchronisation, quantified_choice, quantified_synchronisation, bound, Guards, guard_holds, argument_of}
 use Rattle.rules.specs.Cells.{Cells, cell, rest, fit, width, shared_room, body_room, has_value, part, in_state, tagged, initial, finished, may_leave}
 use Rattle.rules.specs.Rules.{in_set}
 
@@ -138,7 +139,7 @@ moves elementary g e v r = []
 moves (automaton count start mark child arrows) g e v r = automaton_moves count child arrows g e v (λ q. moves (child q) g e v) r
 moves (sequence a b) g e v r = sequence_moves a b (moves a g e v) (moves b g e v) r
 moves (closure b) g e v r = closure_moves b (moves b g e v) r
-moves (guarded guard b) g e v r = guard_moves (answer g guard v) b (moves b g e v) r
+moves (guarded guard b) g e v r = guard_moves (g guard v) b (moves b g e v) r
 moves (choice a b) g e v r = choice_moves a b (moves a g e v) (moves b g e v) r
 moves (synchronisation labels a b) g e v r = synchronisation_moves (in_set e.label labels) a b (moves a g e v) (moves b g e v) r
 moves (quantified_choice xs b) g e v r = quantified_choice_moves xs b (λ x. moves b g e (bound x v)) r
