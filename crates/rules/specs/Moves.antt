@@ -1,7 +1,7 @@
 -- The cells to which an event moves a part, as a list that can be computed. Nobody has to believe this file: a theorem says that the lists hold
 -- exactly what the rules derive. Each operator takes as parameters the lists of its parts.
 use Rattle.std.specs.Prelude.{ℕ, zero, suc, Bool, true, false, not, ◌&&◌, List, [], ◌∷◌, ◌++◌, map, drop, Option, Some, None, ◌==◌}
-use Rattle.std.specs.List.{slice_get}
+use Rattle.std.specs.List.{slice_get, flat_map}
 use Rattle.notation.specs.declared.arrow.Arrow.{Arrow}
 use Rattle.event.specs.Forms.{first_argument, second_argument}
 use Rattle.event.specs.declared.event.Event.{Event}
@@ -25,8 +25,7 @@ placed false h l = []
 
 -- what f gives for each of a list
 unfoldable pub over : (Cells → List Cells) → List Cells → List Cells
-over f [] = []
-over f (x ∷ xs) = join (f x) (over f xs)
+over f l = flat_map f l
 
 -- what f gives for each value, with its position from 0
 unfoldable pub for_each : (ℕ → ℕ → List Cells) → List ℕ → List Cells
