@@ -84,8 +84,8 @@ impl Limit {
 
 impl Limits {
     /// Sets the limit of a guard, in place of the one it had. An operand is given by its number (1 outer variable, 2 inner variable,
-    /// 3 first argument, 4 second argument), and so is a comparison (0 below, 1 equal, 2 above): a number may name none, and the refusal
-    /// then says which field was wrong.
+    /// 3 first argument, 4 second argument), and so is a comparison (0 below, 1 equal, 2 above).
+    // Numbers and not kinds: a caller's number may be out of range, and the refusal says which field was.
     pub fn set(
         &mut self,
         guard: u16,
