@@ -9,13 +9,14 @@ use Rattle.host.specs.declared.limit.Operand.TheVariants.{Outer, Inner, First, S
 use Rattle.host.specs.declared.limit.Comparison.{Comparison}
 use Rattle.host.specs.declared.limit.Comparison.TheVariants.{Below, Equal, Above}
 use Rattle.host.specs.declared.limit.Limit.{Limit}
+use Rattle.host.specs.declared.variables.Variables.{Variables}
 
 -- what an operand names; it is absent where the variable is not in scope or the event has too few arguments
-abbrev pub operand_of : Operand → Event → Option ℕ → Option ℕ → Option ℕ
-operand_of Outer e outer inner = outer
-operand_of Inner e outer inner = inner
-operand_of First e outer inner = first_argument e
-operand_of Second e outer inner = second_argument e
+abbrev pub operand_of : Operand → Event → Variables → Option ℕ
+operand_of Outer e v = v.outer
+operand_of Inner e v = v.inner
+operand_of First e v = first_argument e
+operand_of Second e v = second_argument e
 
 -- whether a value compares so with a constant
 abbrev pub compares : Comparison → ℕ → ℕ → Bool
@@ -29,13 +30,13 @@ compares_if c None constant = false
 compares_if c (Some value) constant = compares c value constant
 
 -- the answer of an entry; without one it is no
-abbrev pub limit_answer : Option Limit → Event → Option ℕ → Option ℕ → Bool
-limit_answer None e outer inner = false
-limit_answer (Some l) e outer inner = compares_if l.comparison (operand_of l.operand e outer inner) l.constant
+abbrev pub limit_answer : Option Limit → Event → Variables → Bool
+limit_answer None e v = false
+limit_answer (Some l) e v = compares_if l.comparison (operand_of l.operand e v) l.constant
 
 -- the answer of a guard by its entry in the table, which ends at guard 31; a guard past it has none
-abbrev pub limits_answer : List (Option Limit) → ℕ → Event → Option ℕ → Option ℕ → Bool
-limits_answer entries guard e outer inner = limit_answer (slice_index_or entries guard None) e outer inner
+abbrev pub limits_answer : List (Option Limit) → ℕ → Event → Variables → Bool
+limits_answer entries guard e v = limit_answer (slice_index_or entries guard None) e v
 
 -- question 19 of the fields of a limit: guard, operand, comparison, constant
 abbrev pub limit_asks : ℕ → ℕ → ℕ → ℕ → List Asked

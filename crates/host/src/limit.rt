@@ -1,5 +1,5 @@
 /// What a limit looks at.
-#[derive(Clone, Copy)]
+#[derive(Clone, Copy, Debug, PartialEq, Eq)]
 pub enum Operand {
     /// The outer variable.
     Outer,
@@ -12,7 +12,7 @@ pub enum Operand {
 }
 
 /// How a limit compares what it looks at with its constant.
-#[derive(Clone, Copy)]
+#[derive(Clone, Copy, Debug, PartialEq, Eq)]
 pub enum Comparison {
     Below,
     Equal,
@@ -20,9 +20,13 @@ pub enum Comparison {
 }
 
 /// A limit: yes if the operand is there and compares so with the constant.
-#[derive(Clone, Copy)]
+#[derive(Clone, Copy, Debug, PartialEq, Eq)]
 pub struct Limit {
     pub operand: Operand,
     pub comparison: Comparison,
     pub constant: u16,
 }
+
+/// A number that names no operand, or no comparison.
+#[derive(Clone, Copy, Debug, PartialEq, Eq)]
+pub struct UnknownNumber(pub u16);

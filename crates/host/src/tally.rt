@@ -1,5 +1,5 @@
 /// A tally: yes while fewer events of a label were told than the bound.
-#[derive(Clone, Copy)]
+#[derive(Clone, Copy, Debug, PartialEq, Eq)]
 pub struct Tally {
     pub label: u16,
     pub bound: u16,

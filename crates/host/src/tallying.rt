@@ -1,4 +1,4 @@
-ghost use Rattle.std.specs.Prelude.{◌≡◌, ℕ, ◌<◌, ◌≤◌, false, List, [], ◌∷◌, map, set, replicate, Some, None, ◌==◌, nat_lt, slice_index_or, slice_set};
+ghost use Rattle.std.specs.Prelude.{◌≡◌, ℕ, ◌<◌, ◌≤◌, false, List, [], ◌∷◌, map, set, Some, None, ◌==◌, nat_lt, slice_index_or, slice_set};
 ghost use Rattle.fault.specs.Asking.{refusal, answer_or, IfRefused, UnlessRefused};
 ghost use Rattle.event.specs.declared.event.Event.{Event};
 ghost use Rattle.host.specs.Meanings.{Told};
@@ -7,6 +7,7 @@ ghost use Rattle.host.specs.Tallying.{events_of, tally_answer, tallies_answer, h
 use crate::host::GuardHost;
 use crate::tallies::Tallies;
 use crate::tally::Tally;
+use crate::variables::Variables;
 use event::event::Event;
 use fault::fault::{Fault, Question};
 
@@ -33,22 +34,6 @@ fn count(entry: &mut Option<Tally>, event: Event)
 }
 
 impl Tallies {
-    /// Has no tally set, so it says no to every guard.
-    pub fn new() -> Tallies
-        ensures has_none_set { result.entries ≡ replicate 32 None }
-    {
-        Tallies {
-            entries: [None; 32],
-        }
-    }
-
-    fn entry(&self, guard: u16) -> Option<Tally>
-        ensures finds { result ≡ slice_index_or self.now.entries guard None }
-        ensures ends { 31 < guard → result ≡ None }
-    {
-        self.entries.get(guard as usize).copied().flatten()
-    }
-
     /// Counts an event in every entry with its label.
     fn hear(&mut self, event: Event)
         ensures counts { (k : ℕ) → k < 32 → slice_index_or self.new.entries k None ≡ heard event (slice_index_or self.old.entries k None) }
@@ -72,7 +57,7 @@ impl Tallies {
         if label > 255 {
             return Err(Question::SettingInRange.at(1));
         }
-        self.entries[guard as usize] = Some(Tally {
+        self.entries[usize::from(guard)] = Some(Tally {
             label,
             bound,
             told: 0,
@@ -82,9 +67,9 @@ impl Tallies {
 }
 
 impl GuardHost for Tallies {
-    ghost meaning = { λ tallies w guard e outer inner. tallies_answer tallies.entries w guard };
+    ghost meaning = { λ tallies w guard e v. tallies_answer tallies.entries w guard };
 
-    fn holds(&self, guard: u16, event: Event, outer: Option<u16>, inner: Option<u16>) -> bool
+    fn holds(&self, guard: u16, event: Event, _variables: Variables) -> bool
         ensures answers_for_what_was_told { result ≡ tallies_answer self.now.entries [] guard }
         ensures says_no_above_guard_31 { 31 < guard → result ≡ false }
     {
@@ -93,7 +78,7 @@ impl GuardHost for Tallies {
     }
 
     fn tell(&mut self, event: Event)
-        ensures answers_as_after_the_event { Told (λ w guard e outer inner. tallies_answer self.old.entries w guard) (event ∷ []) (λ w guard e outer inner. tallies_answer self.new.entries w guard) }
+        ensures answers_as_after_the_event { Told (λ w guard e v. tallies_answer self.old.entries w guard) (event ∷ []) (λ w guard e v. tallies_answer self.new.entries w guard) }
         ensures raises_every_entry_with_that_label { self.new.entries ≡ map (heard event) self.old.entries }
     {
         self.hear(event);

@@ -4,7 +4,14 @@ use host::host::GuardHost;
 use host::limits::Limits;
 use host::tallies::Tallies;
 use host::telling::tell_all;
+use host::variables::Variables;
 use std::process::Abort;
+
+/// Outside every binder.
+const NONE: Variables = Variables {
+    outer: None,
+    inner: None,
+};
 
 /// What one limit says of an event with one argument, 6, under outer variable 5 and no inner one.
 fn limited(rt: &impl Abort, operand: u16, comparison: u16, constant: u16) -> bool {
@@ -17,7 +24,14 @@ fn limited(rt: &impl Abort, operand: u16, comparison: u16, constant: u16) -> boo
     let mut limits = Limits::new();
     assert_eq!(rt; told(limits.set(31, operand, comparison, constant)), Ok(()));
     limits.tell(event);
-    limits.holds(31, event, Some(5), None)
+    limits.holds(
+        31,
+        event,
+        Variables {
+            outer: Some(5),
+            inner: None,
+        },
+    )
 }
 
 #[test]
@@ -43,11 +57,15 @@ fn limits_compare_their_operand(rt: HostRuntime) {
 fn unset_guards_say_no(rt: HostRuntime) {
     let mut tallies = Tallies::new();
     assert_eq!(rt; told(tallies.set(0, 8, 1)), Ok(()));
+    let both = Variables {
+        outer: Some(1),
+        inner: Some(1),
+    };
     for guard in [1, 31, 32, 65535] {
-        assert!(rt; !Limits::new().holds(guard, plain(8), Some(1), Some(1)));
-        assert!(rt; !tallies.holds(guard, plain(8), None, None));
+        assert!(rt; !Limits::new().holds(guard, plain(8), both));
+        assert!(rt; !tallies.holds(guard, plain(8), NONE));
     }
-    assert!(rt; tallies.holds(0, plain(8), None, None));
+    assert!(rt; tallies.holds(0, plain(8), NONE));
 }
 
 #[test]
@@ -57,16 +75,16 @@ fn every_tally_of_the_label_counts(rt: HostRuntime) {
     assert_eq!(rt; told(tallies.set(1, 9, 1)), Ok(()));
     assert_eq!(rt; told(tallies.set(31, 8, 3)), Ok(()));
     tell_all(&mut tallies, &[plain(8), plain(7), plain(8)]);
-    assert!(rt; !tallies.holds(0, plain(8), None, None));
-    assert!(rt; tallies.holds(1, plain(8), None, None));
-    assert!(rt; tallies.holds(31, plain(8), None, None));
+    assert!(rt; !tallies.holds(0, plain(8), NONE));
+    assert!(rt; tallies.holds(1, plain(8), NONE));
+    assert!(rt; tallies.holds(31, plain(8), NONE));
     assert_eq!(rt; told(tallies.set(0, 8, 1)), Ok(()));
     assert!(rt;
-        tallies.holds(0, plain(8), None, None),
+        tallies.holds(0, plain(8), NONE),
         "set again, nothing is told yet"
     );
     tallies.tell(plain(8));
-    assert!(rt; !tallies.holds(31, plain(8), None, None));
+    assert!(rt; !tallies.holds(31, plain(8), NONE));
 }
 
 #[test]
@@ -76,10 +94,10 @@ fn tallies_stop_at_65535(rt: HostRuntime) {
     for _ in 0..65534 {
         tallies.tell(plain(8));
     }
-    assert!(rt; tallies.holds(0, plain(8), None, None), "65,534 told");
+    assert!(rt; tallies.holds(0, plain(8), NONE), "65,534 told");
     tallies.tell(plain(8));
-    assert!(rt; !tallies.holds(0, plain(8), None, None), "65,535 told");
+    assert!(rt; !tallies.holds(0, plain(8), NONE), "65,535 told");
     tallies.tell(plain(8));
     tallies.tell(plain(8));
-    assert!(rt; !tallies.holds(0, plain(8), None, None), "more than that");
+    assert!(rt; !tallies.holds(0, plain(8), NONE), "more than that");
 }

@@ -1,22 +1,12 @@
--- The value of a range at a position.
-use Rattle.std.specs.Prelude.{◌≡◌, ℕ, zero, suc, ◌+◌, ◌<◌, ◌≤◌, Some, None}
-use Rattle.std.proofs.Common.{refl, arith}
+-- What a run of values has at an index.
+use Rattle.std.proofs.Common.{◌≡◌, ℕ, ◌+◌, cond, nat_lt, Some, None, arith}
+use Rattle.std.proofs.lemmas.Grind.{common_steps}
 use Rattle.std.specs.List.{range_with_len, slice_get}
-use Rattle.std.proofs.lemmas.Bool.Decides.{nat_tests}
-use Rattle.roster.specs.Values.{value_at}
-use Rattle.roster.specs.Runs.{range_value}
+use Rattle.std.proofs.lemmas.List.FromFn.{length-range_with_len, get_or-range_with_len}
+use Rattle.std.proofs.lemmas.Option.{slice_get_past, slice_get-get_or}
 
-within : (a n i : ℕ) → i < n → slice_get (range_with_len a n) i ≡ Some (a + i)
-within a zero i lt = grind arith
-within a (suc n) zero lt = grind arith
-within a (suc n) (suc i) lt = grind (arith, within (a + 1) n i)
-
-past : (a n i : ℕ) → n ≤ i → slice_get (range_with_len a n) i ≡ None
-past a zero i le = refl
-past a (suc n) zero le = grind arith
-past a (suc n) (suc i) le = past (a + 1) n i (omega arith)
-
--- by arithmetic and in the list it is the same
-pub valued : (first count p : ℕ) → range_value first count p ≡ value_at (Some (range_with_len first count)) p
-valued first count zero = refl
-valued first count (suc p) = grind (arith, nat_tests, within first count p, past first count p)
+-- first and the index below the count, and nothing from there on
+pub at_index : (first count i : ℕ) → slice_get (range_with_len first count) i ≡ cond (nat_lt i count) (Some (first + i)) None
+at_index first count i =
+    let values = range_with_len first count in
+    grind (arith, common_steps, length-range_with_len first count, slice_get_past values i, slice_get-get_or values i 0, get_or-range_with_len first count i 0)

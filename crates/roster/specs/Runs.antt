@@ -1,5 +1,5 @@
 -- Types by first value and count, and the setting of one.
-use Rattle.std.specs.Prelude.{ℕ, ◌+◌, ◌-◌, Bool, true, cond, ◌&&◌, List, [], ◌∷◌, Some, None, Ok, Err, Option, Result, nat_le, slice_index_or, slice_set}
+use Rattle.std.specs.Prelude.{ℕ, ◌+◌, Bool, true, ◌&&◌, List, [], ◌∷◌, Some, None, Ok, Err, Option, Result, nat_le, slice_index_or, slice_set}
 use Rattle.std.specs.List.{range_with_len}
 use Rattle.fault.specs.Asking.{Asked, asked_of_fields}
 use Rattle.fault.specs.declared.fault.Fault.{Fault}
@@ -19,10 +19,6 @@ in_range (Some s) = range_fits s.first s.count
 abbrev pub range_values : Option Range → Option (List ℕ)
 range_values None = None
 range_values (Some s) = Some (range_with_len s.first s.count)
-
--- the value of a range at a position from 1, absent past its last
-abbrev pub range_value : ℕ → ℕ → ℕ → Option ℕ
-range_value first count position = cond (nat_le 1 position && nat_le position count) (Some (first + (position - 1))) None
 
 -- the values of a type by its entry in the table, which ends at type 7; a type past it is unknown
 abbrev pub ranges_values : List (Option Range) → ℕ → Option (List ℕ)

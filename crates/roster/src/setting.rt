@@ -1,8 +1,8 @@
 ghost use Rattle.std.specs.Prelude.{◌≡◌, ℕ, ◌<◌, ◌≤◌, true, Some, None, MatchResult, ◌≢◌, slice_index_or};
 ghost use Rattle.std.specs.List.{range_with_len};
 ghost use Rattle.fault.specs.Asking.{refusal, answer_or, IfRefused, UnlessRefused};
-ghost use Rattle.roster.specs.Runs.{in_range, range_value, range_values, ranges_values, range_asks, entries_after};
-ghost use Rattle.roster.specs.Values.{count_of};
+ghost use Rattle.roster.specs.Runs.{in_range, range_values, ranges_values, range_asks, entries_after};
+ghost use Rattle.roster.specs.Values.{count_of, value_at};
 ghost use Rattle.roster.specs.Counted.{counted-different};
 
 use crate::range::Range;
@@ -20,10 +20,7 @@ impl Range {
         if ty > 7 {
             return Err(Question::SettingInRange.at(0));
         }
-        if count > 16 {
-            return Err(Question::SettingInRange.at(2));
-        }
-        if first as u32 + count as u32 > 65536 {
+        if count > 16 || u32::from(first) + u32::from(count) > 65_536 {
             return Err(Question::SettingInRange.at(2));
         }
         Ok(Range { first, count })
@@ -33,19 +30,17 @@ impl Range {
     fn len(self) -> usize
         ensures { Some result ≡ count_of (range_values (Some self)) }
     {
-        self.count as usize
+        usize::from(self.count)
     }
 
     /// The value at a position from 1, absent elsewhere.
+    #[tactic(auto, using(crate::proofs::Valued::at_index))]
     fn value(self, position: usize) -> Option<u16>
         requires { in_range (Some self) ≡ true }
-        ensures { result ≡ range_value self.first self.count position }
+        ensures { result ≡ value_at (range_values (Some self)) position }
     {
-        if position >= 1 && position <= self.count as usize {
-            Some(self.first + (position - 1) as u16)
-        } else {
-            None
-        }
+        let index = u16::try_from(position.checked_sub(1)?).ok()?;
+        (index < self.count).then(|| self.first + index)
     }
 }
 
@@ -57,12 +52,13 @@ impl Ranges {
         Ranges { entries: [None; 8] }
     }
 
+    // A guard host has the same chain of library calls for its entries; the two crates share nothing else, so each keeps its own.
     fn range(&self, ty: u16) -> Option<Range>
         ensures finds { result ≡ slice_index_or self.now.entries ty None }
         ensures fits { in_range result ≡ true }
         ensures ends { 7 < ty → result ≡ None }
     {
-        self.entries.get(ty as usize).copied().flatten()
+        self.entries.get(usize::from(ty)).copied().flatten()
     }
 
     /// Gives a type the values `first`, the next one, and so on, `count` of them, in place of what it had.
@@ -74,7 +70,7 @@ impl Ranges {
         ensures replaces_one_entry { self.new.entries ≡ entries_after result self.old.entries ty (record { first = first; count = count }) }
     {
         let range = Range::checked(ty, first, count)?;
-        self.entries[ty as usize] = Some(range);
+        self.entries[usize::from(ty)] = Some(range);
         Ok(())
     }
 }

@@ -1,14 +1,18 @@
 -- Every event that moves a part is carried by an arrow of it, and stands among its candidates.
 use Rattle.std.proofs.Common.{◌≡◌, refl, sym, ◌∙◌, ap, subst, ℕ, zero, suc, ◌<◌, ◌↔◌, cond, Bool, true, false, ◌||◌, true≢false, inl, inr, ⊎_elim, List, [], ◌∷◌, map, Some, None, nat_le, leb-true, leb-false, arith}
 use Rattle.std.proofs.lemmas.Bool.{cases_lt}
-use Rattle.std.specs.List.{slice_get}
+use Rattle.std.proofs.lemmas.Bool.{or_right}
+use Rattle.std.proofs.lemmas.Option.{none-some}
+use Rattle.std.specs.List.{slice_get, filter}
+use Rattle.rules.proofs.Lists.{in-flat}
 use mathlib.Core.List.{Memᴰ}
 use mathlib.Core.List.Memᴰ
 use Rattle.event.specs.Forms.{InForm, first_argument, second_argument, event_rank}
 use Rattle.event.specs.Laws.{event_order}
 use Rattle.event.specs.declared.event.Event.{Event}
 use Rattle.host.specs.Meanings.{Meaning}
-use Rattle.rules.specs.Trees.{NumberedArrow, Tree, elementary, automaton, sequence, closure, guarded, choice, synchronisation, quantified_choice, quantified_synchronisation, Variables, no_variables, bound, Guards}
+use Rattle.host.specs.declared.variables.Variables.{Variables}
+use Rattle.rules.specs.Trees.{NumberedArrow, Tree, elementary, automaton, sequence, closure, guarded, choice, synchronisation, quantified_choice, quantified_synchronisation, no_variables, bound, Guards}
 use Rattle.rules.specs.Cells.{Cells, cell, width, has_value}
 use Rattle.rules.specs.Rules.{Motion, Carries, Step, OneMoves, AllMove}
 use Rattle.rules.specs.Rules.AutomatonRule.{aut-1, aut-6}
@@ -25,13 +29,13 @@ use Rattle.rules.specs.Chains.{answers_after, GoesOn}
 use Rattle.rules.specs.InRange.{Sound}
 use Rattle.rules.specs.Moves.{moves}
 use Rattle.rules.specs.Ends.{ends}
-use Rattle.rules.specs.Candidates.{Carried, event_with, event_of, under_each, in_each, candidates, has_one, some_moves, passing, menu}
+use Rattle.rules.specs.Candidates.{Carried, event_with, event_of, in_each, candidates, has_one, some_moves, menu}
 use Rattle.rules.proofs.Fits.{fits}
 use Rattle.rules.proofs.Ends.{in-arranged, out-arranged, rising-arranged, listed-ends}
 use Rattle.ordered.specs.Order.{Rising}
 
 value-in : (xs : List ℕ) (k x : ℕ) → slice_get xs k ≡ Some x → Memᴰ x xs
-value-in [] k x e = let z : ◌≡◌ {A = ℕ} 0 1 = cc in absurd (omega arith)
+value-in [] k x e = absurd (none-some x e)
 value-in (y ∷ xs) zero x e = Memᴰ.head cc
 value-in (y ∷ xs) (suc k) x e = Memᴰ.tail (value-in xs k x e)
 
@@ -93,14 +97,6 @@ event-parts e f = by-count (nat_le 1 e.count) (nat_le 2 e.count) refl refl
 carried-event : (v : Variables) (a : NumberedArrow) (e : Event) → InForm e → Carries a.arrow e v → e ≡ event_of v a
 carried-event v a e f c = event-parts e f ∙ λ i. event_with (sym c.label i) (sym c.first i) (sym c.second i)
 
-in-under : (f : ℕ → List Event) (e : Event) (xs : List ℕ) (x : ℕ) → Memᴰ x xs → Memᴰ e (f x) → Memᴰ e (under_each f xs)
-in-under f e [] x m n = absurd (Memᴰ.not-nil m)
-in-under f e (y ∷ xs) x m n =
-    ⊎_elim
-    (λ q. Memᴰ.append_left (under_each f xs) (subst (λ (z : ℕ). Memᴰ e (f z)) q n))
-    (λ k. Memᴰ.append_right (f y) (in-under f e xs x k n))
-    (Memᴰ.cases_cons m)
-
 in-below : (f : ℕ → List Event) (e : Event) (n q : ℕ) → q < n → Memᴰ e (f q) → Memᴰ e (in_each f n)
 in-below f e zero q h m = absurd (omega arith)
 in-below f e (suc n) q h m =
@@ -128,28 +124,26 @@ carried-listed (choice a b) e v s f (inl c) = Memᴰ.append_left (candidates b v
 carried-listed (choice a b) e v s f (inr c) = Memᴰ.append_right (candidates a v) (carried-listed b e v s.1 f c)
 carried-listed (synchronisation labels a b) e v s f (inl c) = Memᴰ.append_left (candidates b v) (carried-listed a e v s.0 f c)
 carried-listed (synchronisation labels a b) e v s f (inr c) = Memᴰ.append_right (candidates a v) (carried-listed b e v s.1 f c)
-carried-listed (quantified_choice xs b) e v s f c = in-under (λ x. candidates b (bound x v)) e xs c.0 c.1 (carried-listed b e (bound c.0 v) s f c.2)
-carried-listed (quantified_synchronisation xs labels b) e v s f c = in-under (λ x. candidates b (bound x v)) e xs c.0 c.1 (carried-listed b e (bound c.0 v) s f c.2)
+carried-listed (quantified_choice xs b) e v s f c = in-flat (λ x. candidates b (bound x v)) c.1 (carried-listed b e (bound c.0 v) s f c.2)
+carried-listed (quantified_synchronisation xs labels b) e v s f c = in-flat (λ x. candidates b (bound x v)) c.1 (carried-listed b e (bound c.0 v) s f c.2)
 
-in-passing : (test : Event → Bool) (e : Event) (l : List Event) → test e ≡ true → Memᴰ e l → Memᴰ e (passing test l)
-unfolding passing
-in-passing test e [] t m = m
-in-passing test e (d ∷ l) t m =
+in-filter : (test : Event → Bool) (e : Event) (l : List Event) → test e ≡ true → Memᴰ e l → Memᴰ e (filter test l)
+in-filter test e [] t m = m
+in-filter test e (d ∷ l) t m =
     ⊎_elim
     (λ q. let yes : test d ≡ true = subst (λ (z : Event). test z ≡ true) q t in rw yes (Memᴰ.head q))
-    (λ k. kept (test d) (in-passing test e l t k))
+    (λ k. kept (test d) (in-filter test e l t k))
     (Memᴰ.cases_cons m)
   where
-    kept : (b : Bool) → Memᴰ e (passing test l) → Memᴰ e (cond b (d ∷ passing test l) (passing test l))
+    kept : (b : Bool) → Memᴰ e (filter test l) → Memᴰ e (cond b (d ∷ filter test l) (filter test l))
     kept true i = Memᴰ.tail i
     kept false i = i
 
-out-passing : (test : Event → Bool) (e : Event) (l : List Event) → Memᴰ e (passing test l) → test e ≡ true
-unfolding passing
-out-passing test e [] m = absurd (Memᴰ.not-nil m)
-out-passing test e (d ∷ l) m = at (test d) refl (λ k. out-passing test e l k) m
+out-filter : (test : Event → Bool) (e : Event) (l : List Event) → Memᴰ e (filter test l) → test e ≡ true
+out-filter test e [] m = absurd (Memᴰ.not-nil m)
+out-filter test e (d ∷ l) m = at (test d) refl (λ k. out-filter test e l k) m
   where
-    at : (b : Bool) → test d ≡ b → (Memᴰ e (passing test l) → test e ≡ true) → Memᴰ e (cond b (d ∷ passing test l) (passing test l)) → test e ≡ true
+    at : (b : Bool) → test d ≡ b → (Memᴰ e (filter test l) → test e ≡ true) → Memᴰ e (cond b (d ∷ filter test l) (filter test l)) → test e ≡ true
     at true is below k = ⊎_elim (λ q. ap test q ∙ is) below (Memᴰ.cases_cons k)
     at false is below k = below k
 
@@ -161,17 +155,13 @@ one-had : (l : List Cells) → has_one l ≡ true → (r : Cells) × Memᴰ r l
 one-had [] h = absurd (true≢false (sym h))
 one-had (x ∷ l) h = (x, Memᴰ.head refl)
 
-or-right : (b c : Bool) → c ≡ true → b || c ≡ true
-or-right true c h = refl
-or-right false c h = h
-
 module _ (t : Tree) (g : Guards) (e : Event) where
   some-move : (l : List Cells) (r r' : Cells) → Memᴰ r l → Step t g e no_variables r r' → some_moves t g e l ≡ true
   some-move [] r r' m s = absurd (Memᴰ.not-nil m)
   some-move (x ∷ l) r r' m s =
       ⊎_elim
       (λ q. let h = has-one r' (moves t g e no_variables x) ((fits t g e no_variables).complete x r' (subst (λ (z : Cells). Step t g e no_variables z r') q s)) in rw h refl)
-      (λ k. or-right (has_one (moves t g e no_variables x)) (some_moves t g e l) (some-move l r r' k s))
+      (λ k. or_right (has_one (moves t g e no_variables x)) (some_moves t g e l) (some-move l r r' k s))
       (Memᴰ.cases_cons m)
 
   moved-some : (l : List Cells) → some_moves t g e l ≡ true → (r : Cells) × Memᴰ r l × ((r' : Cells) × Step t g e no_variables r r')
@@ -184,7 +174,7 @@ module _ (t : Tree) (g : Guards) (e : Event) where
 
 pub menu-goes-on : (t : Tree) (m : Meaning) (events : List Event) (e : Event) → Memᴰ e (menu t m events) → GoesOn t m events e
 menu-goes-on t m events e i =
-    let o = moved-some t (answers_after m events e) e (ends t m events) (out-passing _ e (candidates t no_variables) (out-arranged event_rank event_order e _ i)) in
+    let o = moved-some t (answers_after m events e) e (ends t m events) (out-filter _ e (candidates t no_variables) (out-arranged event_rank event_order e _ i)) in
     (o.2.0, (o.0, (listed-ends t m events o.0).0 o.1, o.2.1))
 
 pub menu-rises : (t : Tree) (m : Meaning) (events : List Event) → Rising event_rank (menu t m events)
@@ -196,6 +186,6 @@ menu-exact t m events e s f = (menu-goes-on t m events e, fro)
     fro : GoesOn t m events e → Memᴰ e (menu t m events)
     fro (r', n) =
         in-arranged event_rank event_order e _
-        (in-passing _ e (candidates t no_variables)
+        (in-filter _ e (candidates t no_variables)
         (some-move t (answers_after m events e) e (ends t m events) n.0 r' ((listed-ends t m events n.0).1 n.1) n.2)
         (carried-listed t e no_variables s f (step-carried t (answers_after m events e) e no_variables n.0 r' n.2)))

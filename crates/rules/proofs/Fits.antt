@@ -1,11 +1,12 @@
 -- The moves of each operator are what its rules derive, where those of its parts are.
-use Rattle.std.proofs.Common.{◌≡◌, refl, ℕ, Bool, true, false, not, List, [], ◌∷◌, eqb-true, eq-eqb, true≢false, sym, subst}
-use Rattle.std.proofs.lemmas.Bool.{and_parts, and_from}
+use Rattle.std.proofs.Common.{◌≡◌, refl, ℕ, Bool, true, List, [], ◌∷◌, eqb-true, eq-eqb, sym, subst}
+use Rattle.std.proofs.lemmas.Bool.{and_parts, and_from, not-true, not_from_false}
 use mathlib.Core.List.{Memᴰ}
 use mathlib.Core.List.Memᴰ
 use Rattle.notation.specs.declared.arrow.Arrow.{Arrow}
 use Rattle.event.specs.declared.event.Event.{Event}
-use Rattle.rules.specs.Trees.{NumberedArrow, Tree, elementary, automaton, sequence, closure, guarded, choice, synchronisation, quantified_choice, quantified_synchronisation, Variables, bound, Guards, answer}
+use Rattle.host.specs.declared.variables.Variables.{Variables}
+use Rattle.rules.specs.Trees.{NumberedArrow, Tree, elementary, automaton, sequence, closure, guarded, choice, synchronisation, quantified_choice, quantified_synchronisation, bound, Guards}
 use Rattle.rules.specs.Cells.{Cells, cell, width}
 use Rattle.rules.specs.Rules.{Motion, in_set, Leads, AutomatonRule, SequenceRule, ClosureRule, GuardRule, ChoiceRule, SynchronisationRule, QuantifiedChoiceRule, OneMoves, AllMove, QuantifiedSynchronisationRule, Step}
 use Rattle.rules.specs.Rules.AutomatonRule.{aut-1, aut-6}
@@ -25,14 +26,6 @@ use Rattle.rules.proofs.Lists.{split, in-left, in-right, in-placed, out-placed, 
 pub record Fits (m : Moves) (M : Motion) : Type 0 where
   pub sound : (r r' : Cells) → Memᴰ r' (m r) → M r r'
   pub complete : (r r' : Cells) → M r r' → Memᴰ r' (m r)
-
-not-true : (b : Bool) → not b ≡ true → b ≡ false
-not-true true e = absurd (true≢false (sym e))
-not-true false e = refl
-
-false-not : (b : Bool) → b ≡ false → not b ≡ true
-false-not true e = absurd (true≢false e)
-false-not false e = refl
 
 module _ {a b : Tree} {ma mb : Moves} {A B : Motion} (fa : Fits ma A) (fb : Fits mb B) where
   pub sequence-fits : Fits (sequence_moves a b ma mb) (SequenceRule a b A B)
@@ -82,8 +75,8 @@ module _ {a b : Tree} {ma mb : Moves} {A B : Motion} (fa : Fits ma A) (fb : Fits
           (λ n. let u = out-over _ _ n in let o = out-placed _ _ _ u.2 in syn-3 u.0 o.0 o.1 (fa.sound _ _ u.1) (fb.sound _ _ o.2) o.3))
 
       fro : (r r' : Cells) → SynchronisationRule w a b A B r r' → Memᴰ r' (synchronisation_moves w a b ma mb r)
-      fro r r' (syn-1 s' t h e) = in-left _ _ (in-placed _ _ (false-not _ t) (fa.complete _ _ h) e)
-      fro r r' (syn-2 s' t h e) = in-right _ _ (in-left _ _ (in-placed _ _ (false-not _ t) (fb.complete _ _ h) e))
+      fro r r' (syn-1 s' t h e) = in-left _ _ (in-placed _ _ (not_from_false _ t) (fa.complete _ _ h) e)
+      fro r r' (syn-2 s' t h e) = in-right _ _ (in-left _ _ (in-placed _ _ (not_from_false _ t) (fb.complete _ _ h) e))
       fro r r' (syn-3 s' t' t h k e) = in-right _ _ (in-right _ _ (in-over _ (fa.complete _ _ h) (in-placed _ _ t (fb.complete _ _ k) e)))
 
 module _ {b : Tree} {mb : Moves} {B : Motion} (fb : Fits mb B) where
@@ -159,7 +152,7 @@ module _ {mb : ℕ → Moves} {B : ℕ → Motion} (fb : (x : ℕ) → Fits (mb 
           (λ p. let o = out-placed _ _ _ p in let t = and_parts _ _ o.1 in qsy-2 t.0 t.1 (subst (λ (q : Cells). AllMove (width b) B xs r q) (sym o.3) (all-sound (width b) xs r _ o.2)))
 
       fro : (r r' : Cells) → QuantifiedSynchronisationRule w xs b B r r' → Memᴰ r' (quantified_synchronisation_moves w xs b mb r)
-      fro r r' (qsy-1 t h) = in-left _ _ (in-placed _ _ (false-not _ t) (one-complete (width b) xs r r' h) refl)
+      fro r r' (qsy-1 t h) = in-left _ _ (in-placed _ _ (not_from_false _ t) (one-complete (width b) xs r r' h) refl)
       fro r r' (qsy-2 t v h) = in-right _ _ (in-placed _ _ (and_from _ _ t v) (all-complete (width b) xs r r' h) refl)
 
 leads-sound : (g : Guards) (e : Event) (v : Variables) (q : ℕ) (child : Tree) (s : Cells) (a : Arrow) → leads g e v q child s a ≡ true → Leads g e v q child s a
@@ -202,7 +195,7 @@ fits elementary g e v = record { sound = λ r r' m. Memᴰ.not-nil m; complete =
 fits (automaton count start mark child ws) g e v = automaton-fits (λ q. fits (child q) g e v) count child ws g e v
 fits (sequence a b) g e v = sequence-fits (fits a g e v) (fits b g e v)
 fits (closure b) g e v = closure-fits (fits b g e v)
-fits (guarded guard b) g e v = guard-fits (fits b g e v) (answer g guard v)
+fits (guarded guard b) g e v = guard-fits (fits b g e v) (g guard v)
 fits (choice a b) g e v = choice-fits (fits a g e v) (fits b g e v)
 fits (synchronisation labels a b) g e v = synchronisation-fits (fits a g e v) (fits b g e v) (in_set e.label labels)
 fits (quantified_choice xs b) g e v = quantified-choice-fits (λ x. fits b g e (bound x v)) xs b

@@ -2,7 +2,7 @@
 use Rattle.std.proofs.Common.{◌≡◌, refl, sym, ◌∙◌, ap, ap₂, subst, ℕ, zero, suc, ◌+◌, ◌<◌, ◌≤◌, cond, Bool, true, false, ◌&&◌, List, [], ◌∷◌, ◌++◌, take, length, Option, Some, None, ⊎_elim, ◌==◌, nat_lt, slice_index_or, not-suc-le-zero, add-zero, length-take-le, get_or-take, eqb-true, ltb-true, arith}
 use Rattle.std.proofs.lemmas.Bool.{and_parts}
 use Rattle.std.proofs.lemmas.List.{get_or_past}
-use Rattle.std.proofs.lemmas.Option.{get_or_from_slice_get}
+use Rattle.std.proofs.lemmas.Option.{none-some, slice_get_within, get_or_from_slice_get}
 use Rattle.std.specs.List.{slice_get}
 use Rattle.std.specs.Option.{option_to_list}
 use mathlib.Core.Path.{fun_ext}
@@ -31,7 +31,7 @@ ChildrenBelow d = (i : ℕ) (n : Node) → slice_get d.nodes i ≡ Some n → Be
 
 -- the child of a state is among those of all
 child-among : (s : List State) (q j : ℕ) → (slice_index_or s q blank_state).child ≡ Some j → Memᴰ j (children_of_states s)
-child-among [] q j e = let z : ◌≡◌ {A = ℕ} 0 1 = cc in absurd (omega arith)
+child-among [] q j e = absurd (none-some j e)
 child-among (x ∷ s) zero j e = Memᴰ.append_left (children_of_states s) (rw e (Memᴰ.head refl))
 child-among (x ∷ s) (suc q) j e = Memᴰ.append_right (option_to_list x.child) (child-among s q j e)
 
@@ -43,11 +43,6 @@ free-below ns before (x ∷ ks) h k m =
     let r = and_parts _ _ q.1 in
     ⊎_elim (λ e. rw e (ltb-true x (length ns) p.0)) (λ i. free-below ns (before ++ x ∷ []) ks r.1 k i) (Memᴰ.cases_cons m)
 
-get-within : {X : Type 0} (xs : List X) (i : ℕ) (x : X) → slice_get xs i ≡ Some x → i < length xs
-get-within [] i x e = let z : ◌≡◌ {A = ℕ} 0 1 = cc in absurd (omega arith)
-get-within (y ∷ xs) zero x e = omega arith
-get-within (y ∷ xs) (suc i) x e = let h = get-within xs i x e in omega arith
-
 module _ (d : Drawing) (s : sound d.nodes d.arrows ≡ true) where
   parts : (nodes_sound d.nodes ≡ true) × (arrows_sound d.nodes d.arrows ≡ true)
   unfolding sound
@@ -55,7 +50,7 @@ module _ (d : Drawing) (s : sound d.nodes d.arrows ≡ true) where
 
   node-parts : (i : ℕ) (n : Node) → slice_get d.nodes i ≡ Some n → (node_sound n ≡ true) × (children_free (take i d.nodes) [] (children_of n) ≡ true)
   node-parts i n e =
-      let lt = get-within d.nodes i n e in
+      let lt = slice_get_within d.nodes i n e in
       let is : slice_index_or d.nodes i blank_node ≡ n = get_or_from_slice_get d.nodes i n blank_node e in
       let h = all-at (λ j. node_sound (slice_index_or d.nodes j blank_node) && children_free (take j d.nodes) [] (children_of (slice_index_or d.nodes j blank_node))) (length d.nodes) i parts.0 lt in
       let p = and_parts _ _ h in
@@ -63,7 +58,7 @@ module _ (d : Drawing) (s : sound d.nodes d.arrows ≡ true) where
 
   pub children-below : ChildrenBelow d
   children-below i n e =
-      let lt = get-within d.nodes i n e in
+      let lt = slice_get_within d.nodes i n e in
       let l : length (take i d.nodes) ≡ i = length-take-le i d.nodes (omega arith) in
       subst (λ (j : ℕ). Below j (children_of n)) l (free-below (take i d.nodes) [] (children_of n) (node-parts i n e).1)
 

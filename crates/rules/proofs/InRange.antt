@@ -3,9 +3,11 @@ use Rattle.std.proofs.Common.{◌≡◌, refl, sym, ◌∙◌, ap, subst, ℕ, z
 use Rattle.std.specs.List.{slice_get}
 use mathlib.Core.Logic.{⊎_elim}
 use Rattle.std.proofs.lemmas.Bool.{cases_lt}
+use Rattle.std.proofs.lemmas.Option.{none-some, slice_get_within}
 use Rattle.notation.specs.declared.node.Mark.{Mark}
 use Rattle.event.specs.declared.event.Event.{Event}
-use Rattle.rules.specs.Trees.{NumberedArrow, Tree, elementary, automaton, sequence, closure, guarded, choice, synchronisation, quantified_choice, quantified_synchronisation, Variables, bound, Guards}
+use Rattle.host.specs.declared.variables.Variables.{Variables}
+use Rattle.rules.specs.Trees.{NumberedArrow, Tree, elementary, automaton, sequence, closure, guarded, choice, synchronisation, quantified_choice, quantified_synchronisation, bound, Guards}
 use Rattle.rules.specs.Cells.{Cells, cell, rest, fit, most, copies, if_values, width, child_room, shared_room, body_room, in_state, part, initial}
 use Rattle.rules.specs.Rules.{Motion, Step, OneMoves, AllMove}
 use Rattle.rules.specs.Rules.AutomatonRule.{aut-1, aut-6}
@@ -39,9 +41,8 @@ most-above (suc n) q f h =
     (cases_lt q n)
 
 value-room : (xs : List ℕ) (k x n : ℕ) → slice_get xs k ≡ Some x → (k < length xs) × (n ≤ if_values xs n)
-value-room [] k x n e = let z : ◌≡◌ {A = ℕ} 0 1 = cc in absurd (omega arith)
-value-room (y ∷ xs) zero x n e = (omega arith, omega arith)
-value-room (y ∷ xs) (suc k) x n e = let h = value-room xs k x n e in (omega (arith, h.0), omega arith)
+value-room [] k x n e = absurd (none-some x e)
+value-room (y ∷ xs) k x n e = (slice_get_within (y ∷ xs) k x e, omega arith)
 
 -- exactly n cells are themselves
 pub fit-exact : (n : ℕ) (s : Cells) → length s ≡ n → fit n s ≡ s

@@ -1,5 +1,7 @@
 -- The instances of a quantified synchronisation, position by position.
-use Rattle.std.proofs.Common.{◌≡◌, refl, sym, ◌∙◌, ap, ℕ, zero, suc, ◌<◌, ◌≤◌, ◌≢◌, List, [], ◌∷◌, ◌++◌, length, drop, slice_index, length-append, length-drop, le_of_suc-le-suc, not-suc-le-zero, arith}
+use Rattle.std.proofs.Common.{◌≡◌, refl, sym, ◌∙◌, ap, subst, ℕ, zero, suc, ◌<◌, ◌≤◌, ◌≢◌, List, [], ◌∷◌, ◌++◌, length, drop, slice_index, length-append, length-drop, le_of_suc-le-suc, not-suc-le-zero, arith}
+use Rattle.std.proofs.lemmas.List.{nil_from_length}
+use Rattle.std.proofs.Math.Seq.{drop-append_seam}
 use Rattle.rules.specs.Cells.{Cells, fit, times}
 use Rattle.rules.specs.Rules.{Motion, OneMoves, AllMove}
 use Rattle.rules.specs.Rules.OneMoves.{this_one, later_one}
@@ -14,19 +16,12 @@ fit-append (suc n) [] q e = absurd (omega arith)
 fit-append (suc n) (x ∷ s) q e = ap {B = Cells} (λ r. x ∷ r) (fit-append n s q (omega arith))
 
 pub drop-append : (n : ℕ) (s q : Cells) → length s ≡ n → drop n (s ++ q) ≡ q
-drop-append zero [] q e = refl
-drop-append zero (x ∷ s) q e = absurd (omega arith)
-drop-append (suc n) [] q e = absurd (omega arith)
-drop-append (suc n) (x ∷ s) q e = drop-append n s q (omega arith)
+drop-append n s q e = subst (λ (m : ℕ). drop m (s ++ q) ≡ q) e (drop-append_seam s q)
 
 pub fit-drop : (n : ℕ) (r : Cells) → n ≤ length r → fit n r ++ drop n r ≡ r
 fit-drop zero r h = refl
 fit-drop (suc n) [] h = absurd (not-suc-le-zero h)
 fit-drop (suc n) (x ∷ r) h = ap {B = Cells} (λ s. x ∷ s) (fit-drop n r (le_of_suc-le-suc h))
-
-no-cells : (r : Cells) → length r ≡ 0 → r ≡ []
-no-cells [] e = refl
-no-cells (x ∷ r) e = absurd (omega arith)
 
 module _ (n : ℕ) (B : ℕ → Motion) where
   pub every-out : ((x : ℕ) → Keeps n (B x)) → (xs : List ℕ) (r r' : Cells) → AllMove n B xs r r' → EveryInstanceMoves n B xs r r'
@@ -43,7 +38,7 @@ module _ (n : ℕ) (B : ℕ → Motion) where
       at d f below (suc i) u = rw d (below i (le_of_suc-le-suc u))
 
   pub every-in : (xs : List ℕ) (r r' : Cells) → EveryInstanceMoves n B xs r r' → AllMove n B xs r r'
-  every-in [] r r' h = none_left (no-cells r' h.long)
+  every-in [] r r' h = none_left (nil_from_length r' h.long)
   every-in (x ∷ xs) r r' h =
       this_too (fit n r') (drop n r') (h.each 0 (omega arith))
       (every-in xs (drop n r) (drop n r') (record { long = simp length-drop (omega (arith, h.long)); each = λ i u. h.each (suc i) (omega arith) }))
@@ -83,7 +78,7 @@ module _ (n : ℕ) (B : ℕ → Motion) where
 
   -- cells are known by their instances
   by-instances : (xs : List ℕ) (r s : Cells) → length r ≡ times xs n → length s ≡ times xs n → ((i : ℕ) → i < length xs → instance_at n i r ≡ instance_at n i s) → r ≡ s
-  by-instances [] r s l k h = no-cells r l ∙ sym (no-cells s k)
+  by-instances [] r s l k h = nil_from_length r l ∙ sym (nil_from_length s k)
   by-instances (x ∷ xs) r s l k h =
       let d : drop n r ≡ drop n s = by-instances xs (drop n r) (drop n s) (simp length-drop (omega arith)) (simp length-drop (omega arith)) (λ i u. h (suc i) (omega arith)) in
       let f : fit n r ≡ fit n s = h 0 (omega arith) in

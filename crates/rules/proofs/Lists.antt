@@ -1,6 +1,7 @@
 -- What is a member of each list that the moves are made of.
-use Rattle.std.proofs.Common.{◌≡◌, refl, sym, ◌∙◌, ap, subst, ℕ, zero, suc, Bool, true, false, true≢false, List, [], ◌∷◌, Option, Some, None, ⊎_elim, eqb-true, eq-eqb, arith}
-use Rattle.std.specs.List.{slice_get}
+use Rattle.std.proofs.Common.{◌≡◌, refl, sym, ◌∙◌, ap, subst, ℕ, zero, suc, Bool, true, false, true≢false, List, [], ◌∷◌, Option, Some, None, ⊎_elim, eqb-true, eq-eqb}
+use Rattle.std.specs.List.{slice_get, flat_map}
+use Rattle.std.proofs.lemmas.Option.{none-some}
 use mathlib.Core.List.{Memᴰ}
 use mathlib.Core.List.Memᴰ
 use Rattle.notation.specs.declared.arrow.Arrow.{Arrow}
@@ -31,19 +32,23 @@ unfolding placed
 out-placed true h l m = let o = Memᴰ.of_map h l m in (o.0, refl, o.1, sym o.2)
 out-placed false h l m = absurd (Memᴰ.not-nil m)
 
+-- what f gives for a member of a list
+pub in-flat : {A B : Type 0} (f : A → List B) {x : A} {y : B} {l : List A} → Memᴰ x l → Memᴰ y (f x) → Memᴰ y (flat_map f l)
+in-flat f {y} (Memᴰ.head {x = z} {xs = xs} e) n = Memᴰ.append_left (flat_map f xs) (subst (λ w. Memᴰ y (f w)) e n)
+in-flat f (Memᴰ.tail {x = z} {xs = xs} m) n = Memᴰ.append_right (f z) (in-flat f m n)
+
 pub in-over : (f : Cells → List Cells) {x y : Cells} {l : List Cells} → Memᴰ x l → Memᴰ y (f x) → Memᴰ y (over f l)
 unfolding over
-in-over f {y} (Memᴰ.head {x = z} {xs = xs} e) n = in-left (f z) (over f xs) (subst (λ (w : Cells). Memᴰ y (f w)) e n)
-in-over f (Memᴰ.tail {x = z} {xs = xs} m) n = in-right (f z) (over f xs) (in-over f m n)
+in-over f m n = in-flat f m n
 
 pub out-over : (f : Cells → List Cells) {y : Cells} (l : List Cells) → Memᴰ y (over f l) → (x : Cells) × Memᴰ x l × Memᴰ y (f x)
-unfolding over
+unfolding over join
 out-over f [] m = absurd (Memᴰ.not-nil m)
 out-over f (x ∷ xs) m = split (f x) (over f xs) m (λ p. (x, Memᴰ.head refl, p)) (λ q. let o = out-over f xs q in (o.0, Memᴰ.tail o.1, o.2))
 
 pub in-each : (f : ℕ → ℕ → List Cells) {y : Cells} (xs : List ℕ) (k x : ℕ) → slice_get xs k ≡ Some x → Memᴰ y (f k x) → Memᴰ y (for_each f xs)
 unfolding for_each
-in-each f [] k x e m = let z : ◌≡◌ {A = ℕ} 0 1 = cc in absurd (omega arith)
+in-each f [] k x e m = absurd (none-some x e)
 in-each f {y} (z ∷ xs) zero x e m = let s : x ≡ z = cc in in-left (f 0 z) (for_each (λ j. f (suc j)) xs) (subst (λ (w : ℕ). Memᴰ y (f 0 w)) s m)
 in-each f (z ∷ xs) (suc k) x e m = in-right (f 0 z) (for_each (λ j. f (suc j)) xs) (in-each (λ j. f (suc j)) xs k x e m)
 

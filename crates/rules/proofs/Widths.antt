@@ -1,7 +1,8 @@
 -- A part keeps its width.
 use Rattle.std.proofs.Common.{◌≡◌, refl, ◌∙◌, ap, ℕ, zero, suc, ◌+◌, List, [], ◌∷◌, ◌++◌, length, drop, length-append, length-drop, arith}
 use Rattle.event.specs.declared.event.Event.{Event}
-use Rattle.rules.specs.Trees.{Tree, elementary, automaton, sequence, closure, guarded, choice, synchronisation, quantified_choice, quantified_synchronisation, Variables, bound, Guards}
+use Rattle.host.specs.declared.variables.Variables.{Variables}
+use Rattle.rules.specs.Trees.{Tree, elementary, automaton, sequence, closure, guarded, choice, synchronisation, quantified_choice, quantified_synchronisation, bound, Guards}
 use Rattle.rules.specs.Cells.{Cells, rest, fit, times, copies, width, initial}
 use Rattle.rules.specs.Rules.{Motion, Step, OneMoves, AllMove}
 use Rattle.rules.specs.Rules.AutomatonRule.{aut-1, aut-6}

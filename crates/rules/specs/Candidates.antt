@@ -1,10 +1,12 @@
 -- The events that an arrow of a diagram can carry, so that a menu can be complete; and the menu, computed.
-use Rattle.std.specs.Prelude.{ℕ, zero, suc, Bool, true, false, cond, ◌||◌, ◌⊎◌, List, [], ◌∷◌, ◌++◌, map, Option, Some, None}
+use Rattle.std.specs.Prelude.{ℕ, zero, suc, Bool, true, false, ◌⊎◌, List, [], ◌∷◌, ◌++◌, map, Option, Some, None}
+use Rattle.std.specs.List.{filter, flat_map, list_any}
 use mathlib.Core.List.{Memᴰ}
 use Rattle.event.specs.Forms.{event_rank}
 use Rattle.event.specs.declared.event.Event.{Event}
 use Rattle.host.specs.Meanings.{Meaning}
-use Rattle.rules.specs.Trees.{NumberedArrow, Tree, elementary, automaton, sequence, closure, guarded, choice, synchronisation, quantified_choice, quantified_synchronisation, Variables, no_variables, bound, Guards, argument_of}
+use Rattle.host.specs.declared.variables.Variables.{Variables}
+use Rattle.rules.specs.Trees.{NumberedArrow, Tree, elementary, automaton, sequence, closure, guarded, choice, synchronisation, quantified_choice, quantified_synchronisation, no_variables, bound, Guards, argument_of}
 use Rattle.rules.specs.Cells.{Cells}
 use Rattle.rules.specs.Rules.{Carries}
 use Rattle.rules.specs.Chains.{answers_after}
@@ -33,11 +35,6 @@ event_with label (Some x) (Some y) = record { label = label; count = 2; first = 
 abbrev pub event_of : Variables → NumberedArrow → Event
 event_of v a = event_with a.arrow.label (argument_of a.arrow.first v) (argument_of a.arrow.second v)
 
--- what f gives for each value
-abbrev pub under_each : (ℕ → List Event) → List ℕ → List Event
-under_each f [] = []
-under_each f (x ∷ xs) = f x ++ under_each f xs
-
 -- what f gives for each number below n
 abbrev pub in_each : (ℕ → List Event) → ℕ → List Event
 in_each f zero = []
@@ -52,8 +49,8 @@ candidates (closure b) v = candidates b v
 candidates (guarded guard b) v = candidates b v
 candidates (choice a b) v = candidates a v ++ candidates b v
 candidates (synchronisation labels a b) v = candidates a v ++ candidates b v
-candidates (quantified_choice xs b) v = under_each (λ x. candidates b (bound x v)) xs
-candidates (quantified_synchronisation xs labels b) v = under_each (λ x. candidates b (bound x v)) xs
+candidates (quantified_choice xs b) v = flat_map (λ x. candidates b (bound x v)) xs
+candidates (quantified_synchronisation xs labels b) v = flat_map (λ x. candidates b (bound x v)) xs
 
 -- whether a list has an element
 abbrev pub has_one : List Cells → Bool
@@ -62,14 +59,8 @@ has_one (r ∷ l) = true
 
 -- whether an event moves some of a list
 abbrev pub some_moves : Tree → Guards → Event → List Cells → Bool
-some_moves t g e [] = false
-some_moves t g e (r ∷ l) = has_one (moves t g e no_variables r) || some_moves t g e l
-
--- those of a list of events that pass a test
-unfoldable pub passing : (Event → Bool) → List Event → List Event
-passing test [] = []
-passing test (e ∷ l) = cond (test e) (e ∷ passing test l) (passing test l)
+some_moves t g e l = list_any (λ r. has_one (moves t g e no_variables r)) l
 
 -- the events with which some chain over `events` goes on, rising, each once
 abbrev pub menu : Tree → Meaning → List Event → List Event
-menu t m events = arranged event_rank (passing (λ e. some_moves t (answers_after m events e) e (ends t m events)) (candidates t no_variables))
+menu t m events = arranged event_rank (filter (λ e. some_moves t (answers_after m events e) e (ends t m events)) (candidates t no_variables))

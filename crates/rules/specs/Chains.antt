@@ -8,7 +8,7 @@ use Rattle.rules.specs.Rules.{Step}
 
 -- what each guard answers to an event that comes after the events `before`
 abbrev pub answers_after : Meaning → List Event → Event → Guards
-answers_after m before e guard outer inner = m before guard e outer inner
+answers_after m before e guard v = m before guard e v
 
 -- A chain over a list of events, from the cells `start` to its end, where m is the host's meaning at the start: one successor for each event in
 -- order, and the guards of each event are answered by m for the list of the events before it.

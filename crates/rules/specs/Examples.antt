@@ -85,11 +85,11 @@ type_0_has xs ty = cond (ty == 0) xs []
 
 -- a host that says no to every guard
 abbrev pub silent : Meaning
-silent w guard e outer inner = false
+silent w guard e v = false
 
 -- a host by tallies, of which guard 0 has one: fewer than one event of label 8
 abbrev pub one_of_label_8 : Meaning
-one_of_label_8 w guard e outer inner = tallies_answer (Some (record { label = 8; bound = 1; told = 0 }) ∷ []) w guard
+one_of_label_8 w guard e v = tallies_answer (Some (record { label = 8; bound = 1; told = 0 }) ∷ []) w guard
 
 -- the ends of the chains over some events are these, and no others
 abbrev pub EndsExactly : Tree → Meaning → List Event → List Cells → Type 0
@@ -395,8 +395,8 @@ pub record Nested : Type 0 where
 
 -- guard 0 holds for an outer value above 8, guard 1 for the inner value 7
 abbrev pub limited : Meaning
-limited w guard e outer inner =
-    limits_answer (Some (record { operand = o.Outer; comparison = Above; constant = 8 }) ∷ Some (record { operand = o.Inner; comparison = Equal; constant = 7 }) ∷ []) guard e outer inner
+limited w guard e v =
+    limits_answer (Some (record { operand = o.Outer; comparison = Above; constant = 8 }) ∷ Some (record { operand = o.Inner; comparison = Equal; constant = 7 }) ∷ []) guard e v
 
 -- guard 0 over the automaton, guard 1 on its arrow, under two choices over type 0
 abbrev pub choosy : Drawing

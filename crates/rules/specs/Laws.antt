@@ -13,7 +13,8 @@ use Rattle.notation.specs.declared.node.Mark.TheVariants.{Unmarked, Shallow, Dee
 use Rattle.notation.specs.declared.node.Node.{Node}
 use Rattle.procedure.specs.Procedures.{drawing}
 use Rattle.procedure.specs.declared.procedure.Procedure.{Procedure}
-use Rattle.rules.specs.Trees.{NumberedArrow, Tree, elementary, automaton, sequence, closure, guarded, choice, synchronisation, quantified_choice, quantified_synchronisation, Variables, no_variables, bound, Guards}
+use Rattle.host.specs.declared.variables.Variables.{Variables}
+use Rattle.rules.specs.Trees.{NumberedArrow, Tree, elementary, automaton, sequence, closure, guarded, choice, synchronisation, quantified_choice, quantified_synchronisation, no_variables, bound, Guards}
 use Rattle.rules.specs.Cells.{Cells, cell, rest, times, width, has_value, part, tagged, initial, finished, may_leave}
 use Rattle.rules.specs.Rules.{in_set, Step}
 use Rattle.rules.specs.Chains.{answers_after, Chain, IsEnd, GoesOn}
@@ -48,7 +49,7 @@ ChainsGoOn =
 
 -- what a host means after some events
 abbrev pub meaning_after : List Event → Meaning → Meaning
-meaning_after before m events guard e outer inner = m (before ++ events) guard e outer inner
+meaning_after before m events guard e v = m (before ++ events) guard e v
 
 -- a chain over two lists of events is one over the first, and from its end one over the second by what the host means then
 abbrev pub ChainsJoin : Type 0

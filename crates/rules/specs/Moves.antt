@@ -1,11 +1,12 @@
 -- The cells to which an event moves a part, as a list that can be computed. Nobody has to believe this file: a theorem says that the lists hold
 -- exactly what the rules derive. Each operator takes as parameters the lists of its parts.
 use Rattle.std.specs.Prelude.{ℕ, zero, suc, Bool, true, false, not, ◌&&◌, List, [], ◌∷◌, ◌++◌, map, drop, Option, Some, None, ◌==◌}
-use Rattle.std.specs.List.{slice_get}
+use Rattle.std.specs.List.{slice_get, flat_map}
 use Rattle.notation.specs.declared.arrow.Arrow.{Arrow}
 use Rattle.event.specs.Forms.{first_argument, second_argument}
 use Rattle.event.specs.declared.event.Event.{Event}
-use Rattle.rules.specs.Trees.{NumberedArrow, Tree, elementary, automaton, sequence, closure, guarded, choice, synchronisation, quantified_choice, quantified_synchronisation, Variables, bound, Guards, answer, guard_holds, argument_of}
+use Rattle.host.specs.declared.variables.Variables.{Variables}
+use Rattle.rules.specs.Trees.{NumberedArrow, Tree, elementary, automaton, sequence, closure, guarded, choice, synchronisation, quantified_choice, quantified_synchronisation, bound, Guards, guard_holds, argument_of}
 use Rattle.rules.specs.Cells.{Cells, cell, rest, fit, width, shared_room, body_room, has_value, part, in_state, tagged, initial, finished, may_leave}
 use Rattle.rules.specs.Rules.{in_set}
 
@@ -24,8 +25,7 @@ placed false h l = []
 
 -- what f gives for each of a list
 unfoldable pub over : (Cells → List Cells) → List Cells → List Cells
-over f [] = []
-over f (x ∷ xs) = join (f x) (over f xs)
+over f l = flat_map f l
 
 -- what f gives for each value, with its position from 0
 unfoldable pub for_each : (ℕ → ℕ → List Cells) → List ℕ → List Cells
@@ -138,7 +138,7 @@ moves elementary g e v r = []
 moves (automaton count start mark child arrows) g e v r = automaton_moves count child arrows g e v (λ q. moves (child q) g e v) r
 moves (sequence a b) g e v r = sequence_moves a b (moves a g e v) (moves b g e v) r
 moves (closure b) g e v r = closure_moves b (moves b g e v) r
-moves (guarded guard b) g e v r = guard_moves (answer g guard v) b (moves b g e v) r
+moves (guarded guard b) g e v r = guard_moves (g guard v) b (moves b g e v) r
 moves (choice a b) g e v r = choice_moves a b (moves a g e v) (moves b g e v) r
 moves (synchronisation labels a b) g e v r = synchronisation_moves (in_set e.label labels) a b (moves a g e v) (moves b g e v) r
 moves (quantified_choice xs b) g e v r = quantified_choice_moves xs b (λ x. moves b g e (bound x v)) r

@@ -5,7 +5,8 @@ use mathlib.Core.List.{Memᴰ}
 use Rattle.notation.specs.declared.arrow.Arrow.{Arrow}
 use Rattle.event.specs.Forms.{first_argument, second_argument}
 use Rattle.event.specs.declared.event.Event.{Event}
-use Rattle.rules.specs.Trees.{NumberedArrow, Tree, elementary, automaton, sequence, closure, guarded, choice, synchronisation, quantified_choice, quantified_synchronisation, Variables, bound, Guards, answer, guard_holds, argument_of}
+use Rattle.host.specs.declared.variables.Variables.{Variables}
+use Rattle.rules.specs.Trees.{NumberedArrow, Tree, elementary, automaton, sequence, closure, guarded, choice, synchronisation, quantified_choice, quantified_synchronisation, bound, Guards, guard_holds, argument_of}
 use Rattle.rules.specs.Cells.{Cells, cell, rest, fit, width, shared_room, body_room, has_value, part, in_state, tagged, initial, finished, may_leave}
 
 -- how a part moves: from which cells to which
@@ -136,7 +137,7 @@ Step elementary g e v r r' = ⊥
 Step (automaton count start mark child arrows) g e v r r' = AutomatonRule count child arrows g e v (λ q. Step (child q) g e v) r r'
 Step (sequence a b) g e v r r' = SequenceRule a b (Step a g e v) (Step b g e v) r r'
 Step (closure b) g e v r r' = ClosureRule b (Step b g e v) r r'
-Step (guarded guard b) g e v r r' = GuardRule (answer g guard v) b (Step b g e v) r r'
+Step (guarded guard b) g e v r r' = GuardRule (g guard v) b (Step b g e v) r r'
 Step (choice a b) g e v r r' = ChoiceRule a b (Step a g e v) (Step b g e v) r r'
 Step (synchronisation labels a b) g e v r r' = SynchronisationRule (in_set e.label labels) a b (Step a g e v) (Step b g e v) r r'
 Step (quantified_choice xs b) g e v r r' = QuantifiedChoiceRule xs b (λ x. Step b g e (bound x v)) r r'

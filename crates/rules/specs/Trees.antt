@@ -1,9 +1,10 @@
--- An opened diagram as a tree, the variables in scope, and what guards answer.
+-- An opened diagram as a tree, the variables that its binders give, and what guards answer.
 use Rattle.std.specs.Prelude.{ℕ, Bool, true, List, Option, Some, None}
 use Rattle.notation.specs.declared.node.Mark.{Mark}
 use Rattle.notation.specs.declared.arrow.Arrow.{Arrow}
 use Rattle.notation.specs.declared.arrow.Argument.{Argument}
 use Rattle.notation.specs.declared.arrow.Argument.TheVariants.{Absent, Constant, Outer, Inner}
+use Rattle.host.specs.declared.variables.Variables.{Variables}
 
 -- an arrow with its number in the file
 pub record NumberedArrow : Type 0 where
@@ -23,11 +24,6 @@ pub data Tree : Type 0 where
   quantified_choice : (values : List ℕ) (body : Tree) → Tree
   quantified_synchronisation : (values labels : List ℕ) (body : Tree) → Tree
 
--- the variables; one that is not in scope is absent
-pub record Variables : Type 0 where
-  pub outer : Option ℕ
-  pub inner : Option ℕ
-
 -- above every binder, none is in scope
 abbrev pub no_variables : Variables
 no_variables = record { outer = None; inner = None }
@@ -41,18 +37,14 @@ bound_under (Some y) x = record { outer = Some y; inner = Some x }
 abbrev pub bound : ℕ → Variables → Variables
 bound x v = bound_under v.outer x
 
--- what each guard answers to one event, under the outer and the inner variable
+-- what each guard answers to one event, under the variables in scope
 abbrev pub Guards : Type 0
-Guards = ℕ → Option ℕ → Option ℕ → Bool
-
--- what a guard answers under the variables in scope
-abbrev pub answer : Guards → ℕ → Variables → Bool
-answer g guard v = g guard v.outer v.inner
+Guards = ℕ → Variables → Bool
 
 -- the guard of an arrow holds; one without a guard always does
 abbrev pub guard_holds : Guards → Option ℕ → Variables → Bool
 guard_holds g None v = true
-guard_holds g (Some guard) v = answer g guard v
+guard_holds g (Some guard) v = g guard v
 
 -- the value that an arrow's argument stands for, absent if it stands for none
 abbrev pub argument_of : Argument → Variables → Option ℕ

@@ -3,21 +3,20 @@ use Rattle.procedure.specs.Sound.{sound}
 use Rattle.rules.specs.Growing.{tree_of}
 use Rattle.rules.specs.Moves.{join, placed, over, for_each, past_zero, if_some, one_if, targets}
 use Rattle.rules.specs.Ends.{arranged}
-use Rattle.rules.specs.Candidates.{passing}
 use Rattle.rules.specs.Examples.{type_0_has, axle}
 use Rattle.rules.proofs.Shown.{ends-exactly, menu-exactly}
 use Rattle.rules.proofs.examples.examples_hold.Goals as goal
 
 pub returns-clause-an_axle_is_selected : goal.returns-clause-an_axle_is_selected
-unfolding tree_of join placed over for_each past_zero if_some one_if targets arranged passing sound
+unfolding tree_of join placed over for_each past_zero if_some one_if targets arranged sound
 returns-clause-an_axle_is_selected c = record { rows = ends-exactly _ _ _ _ refl; done = refl; menu = menu-exactly (type_0_has (1 ∷ 2 ∷ 3 ∷ [])) axle 2 _ _ _ refl refl }
 
 pub returns-clause-that_axle_is_measured : goal.returns-clause-that_axle_is_measured
-unfolding tree_of join placed over for_each past_zero if_some one_if targets arranged passing sound
+unfolding tree_of join placed over for_each past_zero if_some one_if targets arranged sound
 returns-clause-that_axle_is_measured c = record { rows = ends-exactly _ _ _ _ refl; unfinished = refl; menu = menu-exactly (type_0_has (1 ∷ 2 ∷ 3 ∷ [])) axle 2 _ _ _ refl refl; other = ends-exactly _ _ _ _ refl }
 
 pub returns-clause-then_the_next_axle : goal.returns-clause-then_the_next_axle
-unfolding tree_of join placed over for_each past_zero if_some one_if targets arranged passing sound
+unfolding tree_of join placed over for_each past_zero if_some one_if targets arranged sound
 returns-clause-then_the_next_axle c = record { rows = ends-exactly _ _ _ _ refl; done = refl; menu = menu-exactly (type_0_has (1 ∷ 2 ∷ 3 ∷ [])) axle 2 _ _ _ refl refl }
 
 pub returns-clause-two_sides_move_apart : goal.returns-clause-two_sides_move_apart

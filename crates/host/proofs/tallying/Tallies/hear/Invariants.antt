@@ -1,7 +1,7 @@
 use Rattle.std.proofs.Common.{◌≡◌, ℕ, ◌<◌, ◌≤◌, List, ◌∷◌, length, get_or, None}
 use Rattle.event.specs.declared.event.Event.{Event}
 use Rattle.host.specs.Tallying.{heard, tally_answer}
-use Rattle.host.proofs.tallies.Tallies.hear.Given as goal
+use Rattle.host.proofs.tallying.Tallies.hear.Given as goal
 
 -- below the index each entry has heard the event, and the others are as they were
 abbrev pub invariant-loop-entry : goal.invariant-loop-entry
