@@ -89,4 +89,11 @@ impl Fault {
     {
         self.place
     }
+
+    /// All that a caller is told, in numbers: the question's, the layer's and the place.
+    pub fn numbers(&self) -> (u8, u8, usize)
+        ensures are_number_layer_and_place { result ≡ (number_of self.now.question, (layer_number_of (layer_of self.now.question), self.now.place)) }
+    {
+        (self.number(), self.layer().number(), self.place)
+    }
 }

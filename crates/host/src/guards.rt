@@ -1,6 +1,6 @@
 ghost use Rattle.std.specs.Prelude.{◌≡◌, ℕ, ◌<◌, length, replicate, None, slice_index_or};
 
-/// One entry for each guard 0 to 31, or none until one is set: the table of a guard host.
+/// One entry for each guard 0 to 31, or none until one is set: the table of a guard host, in fixed memory in place of a map.
 #[derive(Drop)]
 pub struct Guards<C> {
     pub(crate) entries: [Option<C>; 32],

@@ -1,6 +1,6 @@
 use crate::table::Table;
 
-/// Whether a state of an automaton is final.
+/// Whether a state of an automaton is final: the three marks that a file has, so unmarked is one of them and no `Option`.
 #[derive(Clone, Copy, Debug, PartialEq, Eq)]
 pub enum Mark {
     Unmarked,
@@ -27,7 +27,7 @@ pub struct States {
 /// A set of labels, rising. Places not in use are 0.
 pub type Labels = Table<u16, 16>;
 
-/// A node of a diagram. Children are given by their numbers.
+/// A node of a diagram. Children are given by their numbers, as in a file: there is no heap for boxes.
 #[derive(Clone, Copy)]
 pub enum Node {
     Closure {

@@ -5,10 +5,7 @@ use fault::fault::Fault;
 pub(crate) type Told = Result<(), (u8, u8, usize)>;
 
 pub(crate) fn told(answer: Result<(), Fault>) -> Told {
-    match answer {
-        Ok(()) => Ok(()),
-        Err(fault) => Err((fault.number(), fault.layer().number(), fault.place())),
-    }
+    answer.map_err(|fault| fault.numbers())
 }
 
 /// An event without arguments.

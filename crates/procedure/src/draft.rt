@@ -8,6 +8,7 @@ use std::marker::Model;
 pub(crate) struct Draft {
     pub(crate) nodes: Table<Node, 64>,
     pub(crate) arrows: Table<Arrow, 256>,
+    /// By the child's number: fixed memory in place of a map.
     pub(crate) parents: [Option<u16>; 64],
 }
 

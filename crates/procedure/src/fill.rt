@@ -1,4 +1,4 @@
-ghost use Rattle.std.specs.Prelude.{◌≡◌, ◌+◌, ◌≤◌, Some, None, MatchResult};
+ghost use Rattle.std.specs.Prelude.{◌≡◌, ◌+◌, ◌<◌, ◌≤◌, length, Some, None, MatchResult};
 ghost use Rattle.fault.specs.Asking.{refusal};
 ghost use Rattle.record.specs.Bytes.{field_at};
 ghost use Rattle.procedure.specs.Drawings.{nothing_drawn, grown};
@@ -11,21 +11,17 @@ use record::record::Record;
 const MOST_BYTES: usize = 16_384;
 
 impl Draft {
-    /// Questions 2 to 7 of a record, whose entry joins the draft; gives what the file holds behind it.
-    fn read<'a>(&mut self, here: &Record<'a>) -> Result<Record<'a>, Fault>
-        requires { here.now.place ≤ here.now.at }
+    /// Questions 2 to 7 of a record, whose entry joins the draft; tells where the next record begins.
+    fn read(&mut self, here: &Record) -> Result<usize, Fault>
+        requires { (length here.now.bytes.now ≤ 16384) × (here.now.at < length here.now.bytes.now) }
         ensures { MatchResult result
-            (λ next. (self.new ≡ grown self.old (entry_here here.now.bytes.now here.now.at)) × (refusal (record_asks here.now.bytes.now here.now.at here.now.place self.old) ≡ None) × (next.bytes.now ≡ here.now.bytes.now) × (next.at ≡ here.now.at + 2 + field_at here.now.bytes.now here.now.at) × (next.place ≡ here.now.place + 1))
+            (λ next. (self.new ≡ grown self.old (entry_here here.now.bytes.now here.now.at)) × (refusal (record_asks here.now.bytes.now here.now.at here.now.place self.old) ≡ None) × (next ≡ here.now.at + 2 + field_at here.now.bytes.now here.now.at) × (next ≤ length here.now.bytes.now))
             (λ f. refusal (record_asks here.now.bytes.now here.now.at here.now.place self.old) ≡ Some f) }
     {
         let frame = here.frame()?;
         let entry = here.decode(frame.kind)?;
         self.admit(entry, here.place)?;
-        Ok(Record {
-            bytes: here.bytes,
-            at: frame.end,
-            place: here.place + 1,
-        })
+        Ok(frame.end)
     }
 
     /// Questions 1 to 7: reads one record after the other into an empty draft.
@@ -38,13 +34,13 @@ impl Draft {
         if bytes.len() > MOST_BYTES {
             return Err(Question::FileWithinLimit.at(0));
         }
-        let mut here = Record {
-            bytes,
-            at: 0,
-            place: 0,
-        };
-        while here.at < bytes.len() {
-            here = self.read(&here)?;
+        let mut at = 0;
+        // a record takes a byte or more, so there are no more records than bytes
+        for place in 0..bytes.len() {
+            if at >= bytes.len() {
+                break;
+            }
+            at = self.read(&Record { bytes, at, place })?;
         }
         Ok(())
     }

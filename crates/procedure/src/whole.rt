@@ -1,4 +1,4 @@
-ghost use Rattle.std.specs.Prelude.{◌≡◌, ◌<◌, length, Some, None, MatchResult, slice_index_or};
+ghost use Rattle.std.specs.Prelude.{◌≡◌, ◌<◌, ◌≤◌, length, Some, None, MatchResult, slice_index_or};
 ghost use Rattle.fault.specs.Asking.{refusal};
 ghost use Rattle.notation.specs.Parts.{binds, blank_node, blank_arrow};
 ghost use Rattle.procedure.specs.Scopes.{parent_of, attached, binders_above, binders_few, in_scope};
@@ -6,6 +6,9 @@ ghost use Rattle.procedure.specs.Reading.{root_asks, binder_asks, scope_asks, wh
 
 use crate::draft::Draft;
 use fault::fault::{Fault, Question};
+
+/// The place of a refusal that concerns no node: a number like any other place, since a report prints it.
+const NO_NODE: usize = 65_535;
 
 impl Draft {
     /// The node of which a node is a child.
@@ -29,7 +32,7 @@ impl Draft {
         ensures { MatchResult result (λ _. refusal (root_asks self.now) ≡ None) (λ f. refusal (root_asks self.now) ≡ Some f) }
     {
         if self.nodes.is_empty() {
-            return Err(Question::OneRoot.at(65535));
+            return Err(Question::OneRoot.at(NO_NODE));
         }
         Question::OneRoot.of_each(self.nodes.len(), |node| self.is_attached(node))
     }
@@ -37,19 +40,20 @@ impl Draft {
     /// Whether a node is a binder.
     fn is_binder(&self, node: usize) -> bool
         requires { node < length self.now.nodes }
-        ensures { result ≡ binds (slice_index_or self.now.nodes node blank_node) }
+        ensures tells { result ≡ binds (slice_index_or self.now.nodes node blank_node) }
+        ensures few { length self.now.nodes ≤ 64 }
     {
         self.nodes.as_slice()[node].is_binder()
     }
 
     /// How many binders stand above a node. No way to the root is longer than there are nodes.
     fn binders_above(&self, node: usize) -> usize
-        requires { node < length self.now.nodes }
+        requires { node < 64 }
         ensures { result ≡ binders_above self.now.nodes node }
     {
         let mut at = node;
         let mut above = 0;
-        for step in 0..self.nodes.len() {
+        for _ in 0..self.nodes.len() {
             let Some(parent) = self.parent_of(at) else {
                 return above;
             };

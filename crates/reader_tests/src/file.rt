@@ -6,11 +6,9 @@ pub(crate) type Told = Result<usize, (u8, u8, usize)>;
 
 /// What a reading tells of these bytes.
 pub(crate) fn told_bytes(bytes: &[u8]) -> Told {
-    Procedure::new().read(bytes).map_err(|fault| (
-        fault.number(),
-        fault.layer().number(),
-        fault.place(),
-    ))
+    Procedure::new()
+        .read(bytes)
+        .map_err(|fault| fault.numbers())
 }
 
 /// A file under test.

@@ -22,10 +22,11 @@ impl Record<'_> {
         let mark = self.field(offset)?;
         let child = self.field(offset + 2)?;
         let child = (child != 65535).then_some(child);
-        let mark = match mark {
-            0 => Mark::Unmarked,
-            1 => Mark::Shallow,
-            2 if child.is_some() => Mark::Deep,
+        // two fields decide a mark, so it is no `TryFrom` of its number
+        let mark = match (mark, child) {
+            (0, _) => Mark::Unmarked,
+            (1, _) => Mark::Shallow,
+            (2, Some(_)) => Mark::Deep,
             _ => return Err(self.fault(Question::FieldsInRange)),
         };
         Ok(State { mark, child })
@@ -41,11 +42,12 @@ impl Record<'_> {
     {
         let kind = self.field(offset)?;
         let value = self.field(offset + 2)?;
-        match kind {
-            1 => Ok(Argument::Constant(value)),
-            0 if value == 0 => Ok(Argument::Absent),
-            2 if value == 0 => Ok(Argument::Outer),
-            3 if value == 0 => Ok(Argument::Inner),
+        // two fields decide an argument, so it is no `TryFrom` of its kind's number
+        match (kind, value) {
+            (0, 0) => Ok(Argument::Absent),
+            (1, _) => Ok(Argument::Constant(value)),
+            (2, 0) => Ok(Argument::Outer),
+            (3, 0) => Ok(Argument::Inner),
             _ => Err(self.fault(Question::FieldsInRange)),
         }
     }

@@ -5,14 +5,12 @@ ghost use Rattle.fault.specs.declared.fault.Question.TheVariants.{RecordWhole};
 
 use fault::fault::{Fault, Question};
 
-/// What a file holds from `at` on: the record that begins there, if any does. Its number is the place of its refusals.
+/// The record that begins at `at` of a file. Its number is the place of its refusals.
 #[derive(Clone, Copy)]
 pub struct Record<'a> {
     pub bytes: &'a [u8],
     pub at: usize,
     pub place: usize,
-    ghost short: { length bytes.now ≤ 16384 },
-    ghost within: { at ≤ length bytes.now },
 }
 
 impl Record<'_> {
@@ -29,7 +27,11 @@ impl Record<'_> {
             (λ v. (self.now.at + offset + 2 ≤ length self.now.bytes.now) × (v ≡ field_at self.now.bytes.now (self.now.at + offset)))
             (λ e. (length self.now.bytes.now < self.now.at + offset + 2) × (e ≡ record { question = RecordWhole; place = self.now.place })) }
     {
-        match self.bytes[self.at..].get(offset..) {
+        let from_here = self
+            .bytes
+            .get(self.at..)
+            .and_then(|from| from.get(offset..));
+        match from_here {
             Some([low, high, ..]) => Ok(u16::from_le_bytes([*low, *high])),
             _ => Err(self.fault(Question::RecordWhole)),
         }

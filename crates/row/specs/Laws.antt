@@ -1,5 +1,7 @@
 -- The order of rows is total, and a row is its cells.
 use Rattle.std.specs.Prelude.{◌≡◌, ℕ, List, length}
+use Rattle.std.specs.declared.cmp.Ordering.TheVariants.{Less, Equal}
+use Rattle.std.specs.Ordering.{ordering_reverse}
 use Rattle.std.proofs.Common.{ap, subst}
 use Rattle.std.proofs.lemmas.Map.Lookups.{exact_bytes}
 use Rattle.std.specs.Cmp.Lexicographic.{nat_list_cmp_total}
@@ -8,8 +10,17 @@ use Rattle.row.specs.Rows.{cells_rank, row_rank}
 use Rattle.row.specs.declared.row.Row.{Row}
 use Rattle.row.specs.contracts.row.Row.{the_propositions}
 
+pub cells-flip : (xs ys : List ℕ) → cells_rank xs ys ≡ ordering_reverse (cells_rank ys xs)
+cells-flip = nat_list_cmp_total.antisymm
+
+pub cells-chain : (xs ys zs : List ℕ) → cells_rank xs ys ≡ Less → cells_rank ys zs ≡ Less → cells_rank xs zs ≡ Less
+cells-chain = nat_list_cmp_total.trans
+
+pub cells-same : (xs ys : List ℕ) → cells_rank xs ys ≡ Equal → xs ≡ ys
+cells-same = exact_bytes
+
 pub cells_order : Order cells_rank
-cells_order = record { flip = nat_list_cmp_total.antisymm; chain = nat_list_cmp_total.trans; same = exact_bytes }
+cells_order = record { flip = cells-flip; chain = cells-chain; same = cells-same }
 
 -- a row is its cells
 pub same-row : (x y : Row) → x.cells ≡ y.cells → x ≡ y

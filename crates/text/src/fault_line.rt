@@ -4,7 +4,7 @@ ghost use Rattle.text.specs.Texts.{refused_line, text_of_question, answer_text, 
 use fault::fault::{Fault, Question};
 use std::fmt;
 
-/// The place of a refusal that concerns no node.
+/// The place of a refusal that concerns no node: a number like any other place, since a report prints it.
 const NO_NODE: usize = 65_535;
 
 /// The first line of a refusal: `refused: number 5, layer 1, place 3`.
@@ -15,9 +15,7 @@ impl fmt::Display for RefusedLine {
     ghost output = { λ x. Some (refused_line x.0) };
 
     fn fmt<W: fmt::Write>(&self, f: &mut fmt::Formatter<W>) -> fmt::Result {
-        let number = self.0.number();
-        let layer = self.0.layer().number();
-        let place = self.0.place();
+        let (number, layer, place) = self.0.numbers();
         write!(f, "refused: number {number}, layer {layer}, place {place}")
     }
 }
@@ -35,6 +33,7 @@ impl fmt::Display for ReasonLine {
     }
 }
 
+// one of some words: a newtype with a `Display` of its own would say no more
 fn question_text(question: Question) -> &'static str
     ensures { result.now ≡ text_of_question question }
 {

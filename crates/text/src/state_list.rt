@@ -62,6 +62,7 @@ impl fmt::Display for NumberedState {
     }
 }
 
+// one of three words: a newtype with a `Display` of its own would say no more
 fn mark_text(mark: Mark) -> &'static str
     ensures { result.now ≡ text_of_mark mark }
 {

@@ -1,21 +1,22 @@
+use Rattle.std.proofs.Common.{arith}
 use Rattle.std.proofs.lemmas.Result.{err_from_is_err_and}
 use Rattle.procedure.proofs.Reached.{reached-more, reached-all, reached-stop}
 use Rattle.procedure.proofs.draft.Draft.fill.Goals as goal
 
-pub returns-in_err-here : goal.returns-in_err-here
-returns-in_err-here c =
+pub returns-in_err-at : goal.returns-in_err-at
+returns-in_err-at c =
     let p = err_from_is_err_and c.from_residual.result c.from_residual.ensures.1 in
-    let i = c.loop-here.invariant in
-    rw (p.1, p.2) (reached-stop c.args.bytes.now _ _ c.loop-here.self c.in_err-here.field-0.0 c.if-bytes-gt-MOST_BYTES.false i.1 c.loop-here-test.true (rw i.0 at c.in_err-here.ensures))
+    rw (p.1, p.2) (reached-stop c.args.bytes.now c.loop-place.place c.loop-place.at c.loop-place.self c.in_err-at.field-0.0 c.if-bytes-gt-MOST_BYTES.false c.loop-place.invariant c.if-at-bytes.false c.in_err-at.ensures)
 
-pub loop-here-preserved : goal.loop-here-preserved
-loop-here-preserved c =
-    let i = c.loop-here.invariant in
-    let s = rw i.0 at c.in_ok-here.ensures in
-    let le = rw s.2 at c.in_ok-here.here.within in
-    (s.2, rw s.4 (reached-more c.args.bytes.now _ _ c.in_ok-here.here.at c.loop-here.self c.read.new.self i.1 c.loop-here-test.true s.1 s.0 s.3 le))
+pub loop-place-preserved : goal.loop-place-preserved
+loop-place-preserved c =
+    let s = c.in_ok-at.ensures in
+    reached-more c.args.bytes.now c.loop-place.place c.loop-place.at c.in_ok-at.at c.loop-place.self c.read.new.self c.loop-place.invariant c.if-at-bytes.false s.1 s.0 s.2 s.3
 
-pub returns : goal.returns
-returns c =
-    let i = c.loop-here.invariant in
-    reached-all c.args.bytes.now _ _ c.loop-here.self c.if-bytes-gt-MOST_BYTES.false i.1 c.loop-here-test.false
+pub returns-after-loop-place : goal.returns-after-loop-place
+returns-after-loop-place c =
+    let low = c.loop-place.invariant.low in
+    reached-all c.args.bytes.now c.loop-place.place c.loop-place.at c.loop-place.self c.if-bytes-gt-MOST_BYTES.false c.loop-place.invariant (omega (arith, c.loop-place-test.false))
+
+pub returns-then-at-bytes : goal.returns-then-at-bytes
+returns-then-at-bytes c = reached-all c.args.bytes.now c.loop-place.place c.loop-place.at c.loop-place.self c.if-bytes-gt-MOST_BYTES.false c.loop-place.invariant c.if-at-bytes.true

@@ -1,8 +1,8 @@
-use Rattle.std.proofs.Common.{Some, sym, refl, ap, ◌∙◌}
+use Rattle.std.proofs.Common.{Some, sym, ap, ◌∙◌}
 use Rattle.std.proofs.lemmas.Result.{err_from_is_err_and}
 use Rattle.procedure.specs.Drawings.{grown}
 use Rattle.procedure.proofs.Fitting.{fits-sound}
-use Rattle.procedure.proofs.Stepping.{here-is, fields-stop, entry-decides}
+use Rattle.procedure.proofs.Stepping.{here-is, whole_is, fields-stop, entry-decides}
 use Rattle.procedure.proofs.draft.Draft.read.Goals as goal
 
 pub returns-in_err-entry : goal.returns-in_err-entry
@@ -31,4 +31,4 @@ returns c =
     let g = c.in_ok-entry.ensures.tells_the_entry_or_that_a_field_is_out_of_range in
     let h = rw g.1 at c.in_ok-admit.ensures in
     let d = entry-decides c.args.here.now.bytes.now c.args.here.now.at c.args.here.now.place c.in_ok-frame.frame.kind f.0 f.1 f.2 c.args.self.now g.0 in
-    (h.0 ∙ ap (grown c.args.self.now) (sym (here-is c.args.here.now.bytes.now c.args.here.now.at c.in_ok-frame.frame.kind f.1)), d ∙ h.1, refl, f.3, refl)
+    (h.0 ∙ ap (grown c.args.self.now) (sym (here-is c.args.here.now.bytes.now c.args.here.now.at c.in_ok-frame.frame.kind f.1)), d ∙ h.1, f.3, rw f.3 (whole_is c.args.here.now.bytes.now c.args.here.now.at f.0))
