@@ -1,5 +1,4 @@
-ghost use Rattle.std.specs.Prelude.{◌≡◌, ℕ, ◌<◌, Bool};
-ghost use Rattle.fault.specs.Asking.{refusal, answer_or, asked_of_each};
+ghost use Rattle.std.specs.Prelude.{◌≡◌};
 ghost use Rattle.fault.specs.Faults.{number_of, layer_of, layer_number_of};
 
 use crate::fault::{Fault, Layer, Question};
@@ -48,19 +47,6 @@ impl Question {
             place,
         }
     }
-
-    /// Asks this question at 0, 1 and so on below `count`, up to the first no.
-    pub fn of_each<F: Fn(usize) -> bool>(self, count: usize, yes: F) -> Result<(), Fault>
-        requires { (k : ℕ) → k < count → F.pre yes k }
-        ensures refuses_at_the_first_no_if_there_is_one { (g : ℕ → Bool) → ((k : ℕ) (b : Bool) → k < count → F.post yes k b → b ≡ g k) → result ≡ answer_or (refusal (asked_of_each self count g)) tt }
-    {
-        for place in 0..count {
-            if !yes(place) {
-                return Err(self.at(place));
-            }
-        }
-        Ok(())
-    }
 }
 
 impl Layer {
@@ -92,7 +78,7 @@ impl Fault {
 
     /// All that a caller is told, in numbers: the question's, the layer's and the place.
     pub fn numbers(&self) -> (u8, u8, usize)
-        ensures are_number_layer_and_place { result ≡ (number_of self.now.question, (layer_number_of (layer_of self.now.question), self.now.place)) }
+        ensures are_number_layer_and_place { result ≡ (number_of self.now.question, layer_number_of (layer_of self.now.question), self.now.place) }
     {
         (self.number(), self.layer().number(), self.place)
     }

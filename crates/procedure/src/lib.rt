@@ -2,6 +2,7 @@
 #![tactic(auto)]
 
 mod admit;
+mod asking;
 mod claim;
 mod draft;
 mod fill;

@@ -4,6 +4,7 @@ ghost use Rattle.notation.specs.Parts.{binds, blank_node, blank_arrow};
 ghost use Rattle.procedure.specs.Scopes.{parent_of, attached, binders_above, binders_few, in_scope};
 ghost use Rattle.procedure.specs.Reading.{root_asks, binder_asks, scope_asks, whole_asks};
 
+use crate::asking::ask_each;
 use crate::draft::Draft;
 use fault::fault::{Fault, Question};
 
@@ -34,7 +35,11 @@ impl Draft {
         if self.nodes.is_empty() {
             return Err(Question::OneRoot.at(NO_NODE));
         }
-        Question::OneRoot.of_each(self.nodes.len(), |node| self.is_attached(node))
+        ask_each(
+            Question::OneRoot,
+            self.nodes.len(),
+            |node| self.is_attached(node),
+        )
     }
 
     /// Whether a node is a binder.
@@ -75,7 +80,11 @@ impl Draft {
     fn binders_fit(&self) -> Result<(), Fault>
         ensures { MatchResult result (λ _. refusal (binder_asks self.now) ≡ None) (λ f. refusal (binder_asks self.now) ≡ Some f) }
     {
-        Question::BindersFew.of_each(self.nodes.len(), |node| self.binder_fits(node))
+        ask_each(
+            Question::BindersFew,
+            self.nodes.len(),
+            |node| self.binder_fits(node),
+        )
     }
 
     /// Question 10 of one arrow.
@@ -92,7 +101,11 @@ impl Draft {
     fn arrows_fit(&self) -> Result<(), Fault>
         ensures { MatchResult result (λ _. refusal (scope_asks self.now) ≡ None) (λ f. refusal (scope_asks self.now) ≡ Some f) }
     {
-        Question::VariablesInScope.of_each(self.arrows.len(), |number| self.arrow_fits(number))
+        ask_each(
+            Question::VariablesInScope,
+            self.arrows.len(),
+            |number| self.arrow_fits(number),
+        )
     }
 
     /// Questions 8 to 10, of everything that was read.

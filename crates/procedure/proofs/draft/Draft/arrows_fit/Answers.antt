@@ -8,4 +8,4 @@ use Rattle.procedure.proofs.draft.Draft.arrows_fit.Goals as goal
 pub returns : goal.returns
 returns c =
     let n : c.len.result ≡ length c.args.self.now.arrows = c.len.ensures.counts ∙ ap (λ (d : Drawing). length d.arrows) c.self.view_is in
-    told tt _ c.of_each.result (rw n at (c.of_each.ensures.refuses_at_the_first_no_if_there_is_one (λ j. in_scope c.args.self.now.nodes (get_or c.args.self.now.arrows j blank_arrow)) (λ k b lt e. search rules)))
+    told tt _ c.ask_each.result (rw n at (c.ask_each.ensures (λ j. in_scope c.args.self.now.nodes (get_or c.args.self.now.arrows j blank_arrow)) (λ k b lt e. search rules)))

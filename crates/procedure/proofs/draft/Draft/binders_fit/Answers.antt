@@ -7,4 +7,4 @@ use Rattle.procedure.proofs.draft.Draft.binders_fit.Goals as goal
 pub returns : goal.returns
 returns c =
     let n : c.len.result ≡ length c.args.self.now.nodes = c.len.ensures.counts ∙ ap (λ (d : Drawing). length d.nodes) c.self.view_is in
-    told tt _ c.of_each.result (rw n at (c.of_each.ensures.refuses_at_the_first_no_if_there_is_one (binders_few c.args.self.now.nodes) (λ k b lt e. search rules)))
+    told tt _ c.ask_each.result (rw n at (c.ask_each.ensures (binders_few c.args.self.now.nodes) (λ k b lt e. search rules)))

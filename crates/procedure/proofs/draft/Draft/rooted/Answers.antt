@@ -8,4 +8,4 @@ pub returns : goal.returns
 returns c =
     let n : c.len.result ≡ length c.args.self.now.nodes = c.len.ensures.counts ∙ ap (λ (d : Drawing). length d.nodes) c.self.view_is in
     let some : ltb 0 (length c.args.self.now.nodes) ≡ true = search rules in
-    rw some (told tt _ c.of_each.result (rw n at (c.of_each.ensures.refuses_at_the_first_no_if_there_is_one (attached c.args.self.now.nodes) (λ k b lt e. search rules))))
+    rw some (told tt _ c.ask_each.result (rw n at (c.ask_each.ensures (attached c.args.self.now.nodes) (λ k b lt e. search rules))))

@@ -1,5 +1,5 @@
 use Rattle.std.proofs.Common.{ℕ, ◌<◌, true}
-use Rattle.fault.proofs.fault.Question.of_each.Given as goal
+use Rattle.procedure.proofs.asking.ask_each.Given as goal
 
 abbrev pub invariant-loop-place : goal.invariant-loop-place
 invariant-loop-place g l = (k : ℕ) → k < l.place → goal.F-post g l.yes k true
