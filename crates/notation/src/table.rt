@@ -1,4 +1,4 @@
-ghost use Rattle.std.specs.Prelude.{◌≡◌, ◌+◌, ◌<◌, ◌≤◌, ◌==◌, [], ◌∷◌, ◌++◌, length, drop, replicate};
+ghost use Rattle.std.specs.Prelude.{◌≡◌, ◌+◌, ◌<◌, ◌≤◌, ◌==◌, [], ◌∷◌, ◌++◌, length, take, drop, replicate};
 
 use std::marker::Model;
 
@@ -36,9 +36,17 @@ impl<T: Copy, const N: usize> Table<T, N> {
         ensures holds_nothing { result.items ≡ [] }
         ensures is_blank_elsewhere { result.spare ≡ replicate N blank }
     {
+        Table::of([blank; N], 0)
+    }
+
+    /// The first `used` of these places, or all of them; the others are not in use.
+    pub fn of(places: [T; N], used: usize) -> Table<T, N>
+        ensures holds_the_first { result.items ≡ take used places }
+        ensures keeps_the_others { result.spare ≡ drop used places }
+    {
         Table {
-            places: [blank; N],
-            used: 0,
+            places,
+            used: used.min(N),
         }
     }
 

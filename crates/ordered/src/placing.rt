@@ -10,7 +10,7 @@ pub(crate) fn seek<T: Rank>(xs: &[T], x: &T) -> Result<usize, usize>
     ensures { MatchResult result (MetAt T.rank xs.now x.now) (ComesAt T.rank xs.now x.now) }
 {
     for (i, y) in xs.iter().enumerate() {
-        match x.cmp(y) {
+        match x.compare(y) {
             Ordering::Less => return Err(i),
             Ordering::Equal => return Ok(i),
             Ordering::Greater => {}

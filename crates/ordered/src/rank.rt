@@ -3,13 +3,16 @@ ghost use Rattle.std.specs.declared.cmp.Ordering.TheVariants.{Less, Equal};
 ghost use Rattle.std.specs.declared.cmp.Ordering.{Ordering};
 ghost use Rattle.std.specs.Ordering.{ordering_reverse};
 
-/// A total order in which equal values are the same.
-pub trait Rank: Ord {
+use std::cmp::Ordering;
+
+/// A total order in which equal values are the same. A trait beside `Ord`, which could say neither that nor an order in a subject's own words,
+/// and which asks for an `==` besides.
+pub trait Rank: Sized {
     /// How the first stands to the second.
     ghost rank: { Self → Self → Ordering };
 
-    /// What `cmp` answers is that.
-    ghost is_the_rank: { (x y : Self) → Self.cmp x y ≡ rank x y };
+    fn compare(&self, other: &Self) -> Ordering
+        ensures is_the_rank { result ≡ rank self.now other.now };
 
     /// Turned round, the answer is the reverse.
     ghost flip: { (x y : Self) → rank x y ≡ ordering_reverse (rank y x) };

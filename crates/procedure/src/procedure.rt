@@ -1,4 +1,4 @@
-ghost use Rattle.std.specs.Prelude.{◌≡◌, true};
+ghost use Rattle.std.specs.Prelude.{◌≡◌, ◌≤◌, true, length};
 ghost use Rattle.procedure.specs.Sound.{sound};
 
 use notation::arrow::Arrow;
@@ -11,5 +11,7 @@ use notation::table::Table;
 pub struct Procedure {
     pub(crate) nodes: Table<Node, 64>,
     pub(crate) arrows: Table<Arrow, 256>,
+    ghost few: { length nodes.items ≤ 64 },
+    ghost scarce: { length arrows.items ≤ 256 },
     ghost drawn: { sound nodes.items arrows.items ≡ true },
 }

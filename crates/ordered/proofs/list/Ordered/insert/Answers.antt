@@ -11,7 +11,7 @@ use Rattle.ordered.proofs.list.Ordered.insert.Given.{Over}
 use Rattle.ordered.proofs.list.Ordered.insert.Goals as goal
 
 order : (g : Over) → Order g.T.Rank.rank
-order g = record { flip = g.T.Rank.flip; chain = g.T.Rank.chain; same = g.T.Rank.same }
+order g = record { flip = g.met.T.Rank.flip; chain = g.met.T.Rank.chain; same = g.met.T.Rank.same }
 
 pub returns-in_default : goal.returns-in_default
 returns-in_default g c =
