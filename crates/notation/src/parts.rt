@@ -1,8 +1,9 @@
 ghost use Rattle.std.specs.Prelude.{◌≡◌, ◌≤◌};
-ghost use Rattle.notation.specs.Parts.{is_absent, binds, states_of, binders_for};
+ghost use Rattle.notation.specs.Parts.{is_absent, children_of, binds, states_of, binders_for};
 
 use crate::arrow::Argument;
 use crate::node::Node;
+use crate::table::Table;
 
 impl Argument {
     pub fn is_absent(self) -> bool
@@ -24,6 +25,35 @@ impl Argument {
 }
 
 impl Node {
+    /// Its children, in the order in which its record names them.
+    pub fn children(&self) -> Table<u16, 32>
+        ensures tells_the_children { result.items ≡ children_of self.now }
+    {
+        let mut children = Table::new(0);
+        match self {
+            Node::Closure { body }
+            | Node::Guard { body, .. }
+            | Node::QuantifiedChoice { body, .. }
+            | Node::QuantifiedSynchronisation { body, .. } => children.push(*body),
+            Node::Sequence { first, second } => {
+                children.push(*first);
+                children.push(*second);
+            }
+            Node::Choice { left, right } | Node::Synchronisation { left, right, .. } => {
+                children.push(*left);
+                children.push(*right);
+            }
+            Node::Automaton { states } => {
+                for state in states.table.as_slice() {
+                    if let Some(child) = state.child {
+                        children.push(child);
+                    }
+                }
+            }
+        }
+        children
+    }
+
     /// Whether the node binds a variable over its body.
     pub fn is_binder(&self) -> bool
         ensures says_whether_it_binds { result ≡ binds self.now }

@@ -14,9 +14,7 @@ use Rattle.procedure.specs.Framed.{Framed}
 use Rattle.procedure.specs.Procedures.{RefusedExactly, AcceptedExactly, LaidOutExactly}
 use Rattle.procedure.specs.Reading.{start_of, records_from, records, entry_here, drawn_by, ranged, few, entry_free, entry_placed, entry_asks, record_asks, root_asks, binder_asks, scope_asks, whole_asks, file_asks, asks, reading, answer_of, left_by, Refused, Accepted}
 use Rattle.procedure.specs.Scopes.{attached, binders_few, in_scope}
-use Rattle.procedure.specs.Sound.{nodes_sound, arrows_sound, whole_sound, sound}
-use Rattle.notation.specs.declared.node.Node.{Node}
-use Rattle.notation.specs.declared.arrow.Arrow.{Arrow}
+use Rattle.procedure.specs.Sound.{nodes_sound, arrows_sound, sound}
 use Rattle.procedure.proofs.Laying.{laid_out, laid-once}
 use Rattle.procedure.proofs.Stepping.{whole_is}
 
@@ -31,25 +29,24 @@ asks-more b d e h = refusal-more (file_asks b) (whole_asks (drawn_by b (records 
 each-yes : (q : Question) (n : ℕ) (f : ℕ → Bool) → refusal (asked_up_to n (λ k. record { question = q; place = k; yes = f k } ∷ [])) ≡ None → (k : ℕ) → k < n → f k ≡ true
 each-yes q n f h k lt = (yes-first (record { question = q; place = k; yes = f k }) [] (asked-each n (λ j. record { question = q; place = j; yes = f j } ∷ []) h k lt)).0
 
--- a drawing whose nodes and arrows are sound is sound if it is whole
-pub sound-whole : (ns : List Node) (ws : List Arrow) → nodes_sound ns ≡ true → arrows_sound ns ws ≡ true → whole_sound ns ws ≡ true → sound ns ws ≡ true
+-- a drawing whose nodes and arrows are sound, and which answers yes to the questions of a whole file, is sound
+pub sound-whole : (d : Drawing) → nodes_sound d.nodes ≡ true → arrows_sound d.nodes d.arrows ≡ true → refusal (whole_asks d) ≡ None → sound d.nodes d.arrows ≡ true
 unfolding sound
-sound-whole ns ws n a h = rw (n, a) h
-
--- and it is whole if it answers yes to the questions of a whole file
-pub whole-yes : (d : Drawing) → refusal (whole_asks d) ≡ None → whole_sound d.nodes d.arrows ≡ true
-whole-yes d h =
+sound-whole d n a h =
     let p = refusal-parts (root_asks d) (binder_asks d ++ scope_asks d) h in
     let q = refusal-parts (binder_asks d) (scope_asks d) p.1 in
     let r = yes-first (record { question = OneRoot; place = 65535; yes = ltb 0 (length d.nodes) }) (asked_up_to (length d.nodes) (λ k. record { question = OneRoot; place = k; yes = attached d.nodes k } ∷ [])) p.0 in
     rw (
+      n,
+      a,
       all_from (attached d.nodes) (length d.nodes) (each-yes OneRoot (length d.nodes) (attached d.nodes) r.1),
       all_from (binders_few d.nodes) (length d.nodes) (each-yes BindersFew (length d.nodes) (binders_few d.nodes) q.0),
     )
     (all_from (λ j. in_scope d.nodes (get_or d.arrows j blank_arrow)) (length d.arrows) (each-yes VariablesInScope (length d.arrows) (λ j. in_scope d.nodes (get_or d.arrows j blank_arrow)) q.1))
 
-pub whole-nothing : (d : Drawing) → d ≡ nothing_drawn → whole_sound d.nodes d.arrows ≡ true
-whole-nothing d e = ap (λ x. whole_sound x.nodes x.arrows) e
+pub sound-nothing : (d : Drawing) → d ≡ nothing_drawn → sound d.nodes d.arrows ≡ true
+unfolding sound
+sound-nothing d e = ap (λ x. sound x.nodes x.arrows) e
 
 -- the records of a file reach its end
 records-reach : (s : ℕ) (b : List ℕ) (i : ℕ) → length b ≤ start_of b i + s → length b ≤ start_of b (records_from s b i)

@@ -1,14 +1,19 @@
 -- What a procedure holds, and how it relates to the file that it was read from.
-use Rattle.std.specs.Prelude.{◌≡◌, ℕ, true, List, length, is_ok, Ok, Err, Result}
+use Rattle.std.specs.Prelude.{◌≡◌, ℕ, true, List, length, is_ok, Some, None, Ok, Err, Result, MatchResult}
+use Rattle.fault.specs.Asking.{refusal}
 use Rattle.fault.specs.declared.fault.Fault.{Fault}
 use Rattle.procedure.specs.Drawings.{Drawing}
 use Rattle.procedure.specs.Layout.{Lays}
-use Rattle.procedure.specs.Reading.{Accepted, Refused}
+use Rattle.procedure.specs.Reading.{whole_asks, Accepted, Refused}
 use Rattle.procedure.specs.declared.procedure.Procedure.{Procedure}
 
 -- its nodes and arrows, in file order
 abbrev pub drawing : Procedure → Drawing
 drawing p = record { nodes = p.nodes.items; arrows = p.arrows.items }
+
+-- a drawing becomes a procedure if it is whole; or the first question that it answers no to is the refusal
+abbrev pub BecomesWhole : Drawing → Result Procedure Fault → Type 0
+BecomesWhole d r = MatchResult r (λ p. (drawing p ≡ d) × (refusal (whole_asks d) ≡ None)) (λ f. refusal (whole_asks d) ≡ Some f)
 
 -- one implies the other, both ways
 pub record Exactly (P Q : Type 0) : Type 0 where

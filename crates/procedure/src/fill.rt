@@ -1,7 +1,7 @@
 ghost use Rattle.std.specs.Prelude.{◌≡◌, ◌+◌, ◌<◌, ◌≤◌, length, Some, None, MatchResult};
 ghost use Rattle.fault.specs.Asking.{refusal};
 ghost use Rattle.record.specs.Bytes.{field_at};
-ghost use Rattle.procedure.specs.Drawings.{nothing_drawn, grown};
+ghost use Rattle.procedure.specs.Drawings.{grown};
 ghost use Rattle.procedure.specs.Reading.{records, drawn_by, file_asks, entry_here, record_asks};
 
 use crate::draft::Draft;
@@ -24,24 +24,25 @@ impl Draft {
         Ok(frame.end)
     }
 
-    /// Questions 1 to 7: reads one record after the other into an empty draft.
-    pub(crate) fn fill(&mut self, bytes: &[u8]) -> Result<(), Fault>
-        requires { self.old ≡ nothing_drawn }
+    /// Questions 1 to 7: what one record after the other draws.
+    pub(crate) fn of(bytes: &[u8]) -> Result<Draft, Fault>
         ensures { MatchResult result
-            (λ _. (self.new ≡ drawn_by bytes.now (records bytes.now)) × (refusal (file_asks bytes.now) ≡ None))
+            (λ draft. (draft ≡ drawn_by bytes.now (records bytes.now)) × (refusal (file_asks bytes.now) ≡ None))
             (λ f. refusal (file_asks bytes.now) ≡ Some f) }
     {
         if bytes.len() > MOST_BYTES {
             return Err(Question::FileWithinLimit.at(0));
         }
+        let mut draft = Draft::empty();
         let mut at = 0;
-        // a record takes a byte or more, so there are no more records than bytes
+        // a record takes a byte or more, so there are no more records than bytes; an iterator of records would have to say in
+        // ghost members all that a reading knows so far
         for place in 0..bytes.len() {
             if at >= bytes.len() {
                 break;
             }
-            at = self.read(&Record { bytes, at, place })?;
+            at = draft.read(&Record { bytes, at, place })?;
         }
-        Ok(())
+        Ok(draft)
     }
 }

@@ -1,44 +1,48 @@
-ghost use Rattle.std.specs.Prelude.{◌≡◌, true, Some, None, MatchResult};
+ghost use Rattle.std.specs.Prelude.{◌≡◌, Some, None, MatchResult};
 ghost use Rattle.fault.specs.Asking.{refusal};
 ghost use Rattle.procedure.specs.Drawings.{nothing_drawn};
-ghost use Rattle.procedure.specs.Procedures.{drawing, RefusedExactly, AcceptedExactly, LaidOutExactly};
+ghost use Rattle.procedure.specs.Procedures.{drawing, BecomesWhole, RefusedExactly, AcceptedExactly, LaidOutExactly};
 ghost use Rattle.procedure.specs.Reading.{records, drawn_by, asks, reading, answer_of, left_by};
-ghost use Rattle.procedure.specs.Sound.{whole_sound};
 
 use crate::draft::Draft;
 use crate::procedure::Procedure;
 use fault::fault::Fault;
-
-/// All questions of a file, and what it draws.
-fn drafted(file: &[u8]) -> Result<Draft, Fault>
-    ensures { MatchResult result
-        (λ d. (d ≡ drawn_by file.now (records file.now)) × (refusal (asks file.now) ≡ None) × (whole_sound d.nodes d.arrows ≡ true))
-        (λ f. refusal (asks file.now) ≡ Some f) }
-{
-    let mut draft = Draft::empty();
-    draft.fill(file)?;
-    draft.whole()?;
-    Ok(draft)
-}
 
 impl Procedure {
     /// A procedure that holds nothing.
     pub fn new() -> Procedure
         ensures holds_nothing { drawing result ≡ nothing_drawn }
     {
-        Procedure::of(Draft::empty())
-    }
-
-    /// What a whole draft holds. It asks that the draft is whole, as no `From` could.
-    fn of(draft: Draft) -> Procedure
-        requires { whole_sound draft.nodes draft.arrows ≡ true }
-        ensures { drawing result ≡ draft }
-    {
+        let draft = Draft::empty();
         Procedure {
             nodes: draft.nodes,
             arrows: draft.arrows,
         }
     }
+}
+
+/// Questions 8 to 10, of a draft.
+impl TryFrom<Draft> for Procedure {
+    type Error = Fault;
+
+    ghost try_from_gives = { BecomesWhole };
+
+    fn try_from(draft: Draft) -> Result<Procedure, Fault> {
+        draft.whole()?;
+        Ok(Procedure {
+            nodes: draft.nodes,
+            arrows: draft.arrows,
+        })
+    }
+}
+
+/// All questions of a file, and what it draws.
+fn drafted(file: &[u8]) -> Result<Procedure, Fault>
+    ensures { MatchResult result
+        (λ p. (drawing p ≡ drawn_by file.now (records file.now)) × (refusal (asks file.now) ≡ None))
+        (λ f. refusal (asks file.now) ≡ Some f) }
+{
+    Procedure::try_from(Draft::of(file)?)
 }
 
 /// What a file gives: a procedure, empty where the file is refused, and the answer.
@@ -50,8 +54,7 @@ fn given(file: &[u8]) -> (Procedure, Result<usize, Fault>)
     ensures laid_out { LaidOutExactly file.now result.1 (drawing result.0) }
 {
     match drafted(file) {
-        Ok(draft) => {
-            let procedure = Procedure::of(draft);
+        Ok(procedure) => {
             let nodes = procedure.node_count();
             (procedure, Ok(nodes))
         }

@@ -1,4 +1,4 @@
-use Rattle.std.proofs.Common.{ℕ, Ok, Err, Result, ◌∙◌, sym}
+use Rattle.std.proofs.Common.{ℕ, Ok, Err, Result, sym}
 use Rattle.fault.specs.declared.fault.Fault.{Fault}
 use Rattle.procedure.specs.Procedures.{drawing}
 use Rattle.procedure.proofs.Readings.{refused-exactly, accepted-exactly, laid-out-exactly, read-refused, read-accepted}
@@ -23,11 +23,11 @@ returns-in-Ok c =
     let n = c.node_count-nodes.result in
     let r : Result ℕ Fault = Ok n in
     let h = c.in-Ok.ensures in
-    let e = read-accepted b n (drawing c.of-procedure.result) h.1 (c.of-procedure.ensures ∙ h.0) (sym c.node_count-nodes.ensures.counts_nodes) in
+    let e = read-accepted b n (drawing c.in-Ok.procedure) h.1 h.0 (sym c.node_count-nodes.ensures.counts_nodes) in
     record {
       answer = e.0;
       contents = e.1;
       refused = refused-exactly b r e.0;
       accepted = accepted-exactly b r e.0;
-      laid_out = laid-out-exactly b r (drawing c.of-procedure.result) e.0 e.1;
+      laid_out = laid-out-exactly b r (drawing c.in-Ok.procedure) e.0 e.1;
     }
