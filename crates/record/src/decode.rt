@@ -8,10 +8,10 @@ ghost use Rattle.record.specs.Kinds.{length_of, count_at};
 use crate::entry::Entry;
 use crate::kind::Kind;
 use crate::record::Record;
+use crate::tabling::table_of;
 use fault::fault::{Fault, Question};
 use notation::arrow::{Argument, Arrow};
 use notation::node::{Labels, Mark, Node, State, States};
-use notation::table::Table;
 
 impl Record<'_> {
     /// The state whose mark and child stand at `offset`.
@@ -62,13 +62,11 @@ impl Record<'_> {
         if start >= count {
             return Err(self.fault(Question::FieldsInRange));
         }
-        let mut table = Table::new(State {
+        let blank = State {
             mark: Mark::Unmarked,
             child: None,
-        });
-        for i in 0..usize::from(count) {
-            table.push(self.state(8 + 4 * i)?);
-        }
+        };
+        let table = table_of(count, blank, |i| self.state(8 + 4 * i))?;
         Ok(States { start, table })
     }
 
@@ -90,11 +88,7 @@ impl Record<'_> {
         ensures { Ranged (labels_fit self.now.bytes.now self.now.at) (labels_at self.now.bytes.now self.now.at) self.now.place result }
     {
         let count = self.at_most(8, 16)?;
-        let mut table = Table::new(0);
-        for i in 0..usize::from(count) {
-            table.push(self.label(i)?);
-        }
-        Ok(table)
+        table_of(count, 0, |i| self.label(i))
     }
 
     /// An arrow's guard at `offset`, 65,535 for none.

@@ -6,3 +6,4 @@ pub mod entry;
 pub mod frame;
 pub mod kind;
 pub mod record;
+mod tabling;

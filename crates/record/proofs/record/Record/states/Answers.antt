@@ -1,43 +1,31 @@
 use Rattle.std.proofs.Common.{◌≡◌, ◌+◌, ◌*◌, refl, arith, rules}
 use Rattle.std.proofs.lemmas.Result.{err_from_is_err_and}
 use Rattle.std.proofs.lemmas.Bool.{le-leb, lt-ltb}
-use Rattle.notation.specs.Parts.{blank_state}
+use Rattle.record.specs.Bytes.{field_at}
 use Rattle.record.specs.Decoding.{state_at}
 use Rattle.record.specs.Ranges.{state_fits}
-use Rattle.record.specs.Bytes.{field_at}
-use Rattle.record.proofs.Below.{all_more, all-stop}
-use Rattle.record.proofs.Tables.{filled-length, filled-more, filled-all}
 use Rattle.record.proofs.record.Record.states.Goals as goal
 
-pub returns-in_err-state : goal.returns-in_err-state
-returns-in_err-state c =
-    let p = err_from_is_err_and c.from_residual-in_err-state.result c.from_residual-in_err-state.ensures.1 in
-    let k : c.args.self.now.at + (8 + 4 * c.loop-i.i) ≡ c.args.self.now.at + 8 + 4 * c.loop-i.i = omega arith in
-    let h = rw k at c.in_err-state.ensures in
+pub returns-in_err-table : goal.returns-in_err-table
+returns-in_err-table c =
+    let p = err_from_is_err_and c.from_residual-in_err-table.result c.from_residual-in_err-table.ensures.1 in
+    let b = c.args.self.now.bytes.now in
+    let at = c.args.self.now.at in
     let n = c.in_ok-count.ensures in
-    let s = all-stop (λ i. state_fits c.args.self.now.bytes.now (c.args.self.now.at + 8 + 4 * i)) (field_at c.args.self.now.bytes.now (c.args.self.now.at + 4)) c.loop-i.i (omega (arith, n)) h.0 in
-    rw (p.1, p.2) (search rules, h.1)
-
-pub push-requires : goal.push-requires
-push-requires c =
-    let n = c.in_ok-count.ensures in
-    let l = filled-length 32 blank_state _ c.loop-i.i c.loop-i.table c.loop-i.invariant.0 in
-    (omega arith, omega (arith, n, l))
-
-pub loop-i-preserved : goal.loop-i-preserved
-loop-i-preserved c =
-    let k : c.args.self.now.at + (8 + 4 * c.loop-i.i) ≡ c.args.self.now.at + 8 + 4 * c.loop-i.i = omega arith in
-    let h = rw k at c.in_ok-state.ensures in (
-      filled-more 32 blank_state (λ i. state_at c.args.self.now.bytes.now (c.args.self.now.at + 8 + 4 * i)) c.loop-i.i c.loop-i.table _ _ c.loop-i.invariant.0 h.1 c.push.ensures.holds_one_more c.push.ensures.takes_a_spare_place,
-      all_more (λ i. state_fits c.args.self.now.bytes.now (c.args.self.now.at + 8 + 4 * i)) c.loop-i.i c.loop-i.invariant.1 h.0,
-    )
+    let t = c.in_err-table.ensures (λ i. state_fits b (at + 8 + 4 * i)) (λ i. state_at b (at + 8 + 4 * i)) c.args.self.now.place
+    (λ k r lt e. let q : at + (8 + 4 * k) ≡ at + 8 + 4 * k = omega arith in search rules) in
+    let none = rw n.0 at t.0 in
+    rw (p.1, p.2) (search rules, t.1)
 
 pub returns : goal.returns
 returns c =
+    let b = c.args.self.now.bytes.now in
+    let at = c.args.self.now.at in
     let n = c.in_ok-count.ensures in
-    let e : c.loop-i.i ≡ field_at c.args.self.now.bytes.now (c.args.self.now.at + 4) = omega (arith, n) in
-    let t = filled-all 32 blank_state _ c.loop-i.i c.loop-i.table c.loop-i.invariant.0 in
-    let some = le-leb 1 (field_at c.args.self.now.bytes.now (c.args.self.now.at + 4)) (omega (arith, n)) in
-    let few = le-leb (field_at c.args.self.now.bytes.now (c.args.self.now.at + 4)) 32 (omega (arith, n)) in
-    let low = lt-ltb (field_at c.args.self.now.bytes.now (c.args.self.now.at + 6)) (field_at c.args.self.now.bytes.now (c.args.self.now.at + 4)) (omega (arith, n, c.in_ok-start.ensures)) in
-    (rw (some, few, low, ← e) c.loop-i.invariant.1, rw (t, e, c.in_ok-start.ensures.1) refl)
+    let s = c.in_ok-start.ensures in
+    let t = c.in_ok-table.ensures (λ i. state_fits b (at + 8 + 4 * i)) (λ i. state_at b (at + 8 + 4 * i)) c.args.self.now.place
+    (λ k r lt e. let q : at + (8 + 4 * k) ≡ at + 8 + 4 * k = omega arith in search rules) in
+    let some = le-leb 1 (field_at b (at + 4)) (omega (arith, n, s)) in
+    let few = le-leb (field_at b (at + 4)) 32 (omega (arith, n)) in
+    let low = lt-ltb (field_at b (at + 6)) (field_at b (at + 4)) (omega (arith, n, s)) in
+    (rw (some, few, low, ← n.0) t.0, rw (t.1, n.0, s.1) refl)
