@@ -26,9 +26,8 @@ impl Event {
         Ok(())
     }
 
-    // each argument has a field of its own: one method for both would have to choose between the fields
-
     /// Its first argument, absent where it has none.
+    // a method for each argument: each has a field of its own, and one method would have to choose between them
     pub fn first_argument(&self) -> Option<u16>
         ensures tells_the_first_argument { result ≡ first_argument self.now }
     {

@@ -1,5 +1,5 @@
 -- Questions as they are asked, one after the other, and the first that is answered no.
-use Rattle.std.specs.Prelude.{◌≡◌, ℕ, zero, suc, Bool, true, false, cond, List, [], ◌∷◌, ◌++◌, Some, None, Ok, Err, Option, Result}
+use Rattle.std.specs.Prelude.{◌≡◌, ℕ, zero, suc, Bool, true, false, cond, List, [], ◌∷◌, ◌++◌, Some, None, Ok, Err, Option, Result, MatchResult}
 use Rattle.fault.specs.declared.fault.Fault.{Fault}
 use Rattle.fault.specs.declared.fault.Question.{Question}
 
@@ -40,6 +40,10 @@ asked_of_fields q i (fits ∷ more) = record { question = q; place = i; yes = fi
 abbrev pub answer_or : {X : Type 0} → Option Fault → X → Result X Fault
 answer_or None x = Ok x
 answer_or (Some f) x = Err f
+
+-- a call is answered as the questions say: none is answered no, or the first no is the refusal
+abbrev pub Answers : {X : Type 0} → List Asked → Result X Fault → Type 0
+Answers asked r = MatchResult r (λ _. refusal asked ≡ None) (λ f. refusal asked ≡ Some f)
 
 -- P holds if the call was refused
 abbrev pub IfRefused : {X : Type 0} → Result X Fault → Type 0 → Type 0

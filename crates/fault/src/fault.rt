@@ -50,6 +50,9 @@ pub enum Layer {
     Settings = 4,
 }
 
+/// The place of a no that concerns no node. A rule of the project makes it a number like any other place, since a report prints it.
+pub const NO_NODE: usize = 65_535;
+
 /// A refusal: the question that was answered no, and where.
 #[derive(Clone, Copy, Debug, PartialEq, Eq)]
 pub struct Fault {

@@ -62,7 +62,7 @@ impl Comparison {
     fn compares(self, value: u16, constant: u16) -> bool
         ensures { result ≡ compares self value constant }
     {
-        // an arm each is plainer than `value.cmp(&constant)`, whose `Ordering` would have to be matched against `self` again
+        // `value.cmp(&constant)` would give an `Ordering` to be matched against `self` in as many arms
         match self {
             Comparison::Below => value < constant,
             Comparison::Equal => value == constant,
@@ -85,7 +85,7 @@ impl Limit {
 impl Limits {
     /// Sets the limit of a guard, in place of the one it had. An operand is given by its number (1 outer variable, 2 inner variable,
     /// 3 first argument, 4 second argument), and so is a comparison (0 below, 1 equal, 2 above).
-    // Numbers and not kinds: a caller's number may be out of range, and the refusal says which field was.
+    // a rule of the project: the fields of a setting are numbers, and a refusal says which one was out of range
     pub fn set(
         &mut self,
         guard: u16,

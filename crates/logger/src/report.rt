@@ -8,7 +8,7 @@ use std::alloc::{AllocError, Global};
 use text::fault_line::{ReasonLine, RefusedLine};
 use text::listing::Listing;
 
-/// What the program says of a file: that it is sound and what it holds, or why it is refused.
+/// What the program says: of a sound file what it holds, and of any other why it is refused.
 pub type Report = Result<String, String>;
 
 /// Reads a file and reports on it. The outer `Err` stands for want of memory; the contract cannot say when that is.

@@ -1,4 +1,4 @@
-/// An argument that an arrow asks of an event: the four kinds that a file has, so absent is one of them and no `Option`.
+/// An argument that an arrow asks of an event. A rule of the project makes the four kinds of a file one enum, absent among them.
 #[derive(Clone, Copy, Debug, PartialEq, Eq)]
 pub enum Argument {
     Absent,

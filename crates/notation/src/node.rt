@@ -1,6 +1,6 @@
 use crate::table::Table;
 
-/// Whether a state of an automaton is final: the three marks that a file has, so unmarked is one of them and no `Option`.
+/// Whether a state of an automaton is final: a grade of three, which an `Option` of two grades would say no plainer.
 #[derive(Clone, Copy, Debug, PartialEq, Eq)]
 pub enum Mark {
     Unmarked,
@@ -24,7 +24,7 @@ pub struct States {
     pub table: Table<State, 32>,
 }
 
-/// A set of labels, rising. Places not in use are 0.
+/// A set of labels. A reading lets only rising ones in, with 0 in the places not in use.
 pub type Labels = Table<u16, 16>;
 
 /// A node of a diagram. Children are given by their numbers, as in a file: there is no heap for boxes.

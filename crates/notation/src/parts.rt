@@ -64,7 +64,7 @@ impl Node {
         )
     }
 
-    /// The number of states of an automaton, 0 for any other node.
+    /// The number of states of an automaton, 0 for any other node: no state is below 0, which is all that a reading asks, so no `Option`.
     pub fn states(&self) -> usize
         ensures counts_states { result ≡ states_of self.now }
         ensures at_most_32 { result ≤ 32 }

@@ -2,7 +2,8 @@ ghost use Rattle.std.specs.Prelude.{◌≡◌, ◌+◌, ◌<◌, ◌≤◌, ◌=
 
 use std::marker::Model;
 
-/// A list of at most `N` elements that lie in the value itself, since there is no heap. A place not in use holds what the table was made with.
+/// A list of at most `N` elements that lie in the value itself: by a rule of the project there is no heap. It is `Copy`, as the nodes
+/// are that hold it and are handed out, which the kit's `ArrayVec` is not. A place not in use holds what the table was made with.
 #[derive(Clone, Copy)]
 pub struct Table<T, const N: usize> {
     places: [T; N],

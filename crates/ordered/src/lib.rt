@@ -1,4 +1,4 @@
-//! A list in rising order without repeats, over places that the caller lends: one text for every element with a total order.
+//! A list that stays in rising order without repeats, over places that the caller lends: one text for every element with a total order.
 #![tactic(auto)]
 
 pub mod holding;

@@ -1,16 +1,15 @@
 -- A draft that takes one node or one arrow more, and why it may not.
-use Rattle.std.proofs.Common.{◌≡◌, ℕ, ◌<◌, ◌≤◌, Bool, true, false, ◌&&◌, ltb, leb, List, [], ◌∷◌, ◌++◌, length, get_or, take, replicate, Some, None, Option, sym, refl, ap, ◌∙◌, ⊎_elim, arith}
+use Rattle.std.proofs.Common.{◌≡◌, ℕ, ◌<◌, ◌≤◌, Bool, true, ◌&&◌, ltb, leb, List, [], ◌∷◌, ◌++◌, length, get_or, take, replicate, Some, None, Option, sym, refl, ap, ◌∙◌, ⊎_elim, arith}
 use Rattle.std.proofs.lemmas.List.{length_push, take-append-le, get_or_append_left, get_or_push, get_or_past, get_or-replicate, length-replicate}
-use Rattle.std.proofs.lemmas.Bool.{cases_lt, and_parts, and_from, and_right, ltb-true, le-leb, lt-leb}
+use Rattle.std.proofs.lemmas.Bool.{cases_lt, and_parts, and_from, ltb-true, le-leb}
 use Rattle.fault.specs.Asking.{refusal}
-use Rattle.fault.specs.declared.fault.Question.TheVariants.{FieldsInRange, ChildrenFree}
+use Rattle.fault.specs.declared.fault.Question.TheVariants.{ChildrenFree}
 use Rattle.notation.specs.Parts.{children_of, states_of, blank_node, blank_arrow}
 use Rattle.notation.specs.declared.node.Node.{Node}
 use Rattle.notation.specs.declared.arrow.Arrow.{Arrow}
 use Rattle.record.specs.Ranges.{all_below}
 use Rattle.record.specs.declared.entry.Entry.TheVariants as e
 use Rattle.record.proofs.Below.{all_more, all-as}
-use Rattle.procedure.specs.Drawings.{Drawing}
 use Rattle.procedure.specs.Drafts.{drawn, Faithful}
 use Rattle.procedure.specs.Scopes.{parent_of, children_free, arrow_placed}
 use Rattle.procedure.specs.Claims.{claims}
@@ -71,13 +70,6 @@ node-passes d n u place s lt c =
     let many : leb (length (d.nodes.items ++ n ∷ [])) 64 ≡ true = le-leb (length (d.nodes.items ++ n ∷ [])) 64 (rw length_push (omega arith)) in
     rw (many, le-leb (length d.arrows.items) 256 s.few-arrows, y.0) refl
 
--- there is no place for the node
-pub node-full : (d : Drawing) (n : Node) (place : ℕ) → 64 ≤ length d.nodes
-    → refusal (entry_asks d place true (Some (e.Node n))) ≡ Some (record { question = FieldsInRange; place = place })
-node-full d n place ge =
-    let many : leb (length (d.nodes ++ n ∷ [])) 64 ≡ false = lt-leb (length (d.nodes ++ n ∷ [])) 64 (rw length_push (omega arith)) in
-    rw many refl
-
 -- a child of the node is not free
 pub node-taken : (d : Inside) (n : Node) (place : ℕ) → Faithful d → length d.nodes.items < 64 → claims (length d.nodes.items) d.parents (children_of n) ≡ None
     → refusal (entry_asks (drawn d) place true (Some (e.Node n))) ≡ Some (record { question = ChildrenFree; place = place })
@@ -109,17 +101,3 @@ arrow-more d a s h lt p t e = record {
   nodes-sound = s.nodes-sound;
   arrows-sound = rw e (arrows-push d.nodes.items d.arrows.items a s.arrows-sound h p);
 }
-
--- and its questions are answered yes
-pub arrow-passes : (d : Inside) (a : Arrow) (place : ℕ) → Faithful d → length d.arrows.items < 256 → arrow_placed d.nodes.items a ≡ true
-    → refusal (entry_asks (drawn d) place true (Some (e.Arrow a))) ≡ None
-arrow-passes d a place s lt p =
-    let many : leb (length (d.arrows.items ++ a ∷ [])) 256 ≡ true = le-leb (length (d.arrows.items ++ a ∷ [])) 256 (rw length_push (omega arith)) in
-    rw (le-leb (length d.nodes.items) 64 s.few-nodes, many, p) refl
-
--- there is no place for the arrow
-pub arrow-full : (d : Drawing) (a : Arrow) (place : ℕ) → 256 ≤ length d.arrows
-    → refusal (entry_asks d place true (Some (e.Arrow a))) ≡ Some (record { question = FieldsInRange; place = place })
-arrow-full d a place ge =
-    let many : leb (length (d.arrows ++ a ∷ [])) 256 ≡ false = lt-leb (length (d.arrows ++ a ∷ [])) 256 (rw length_push (omega arith)) in
-    rw (and_right (leb (length d.nodes) 64) (leb (length (d.arrows ++ a ∷ [])) 256) many) refl

@@ -1,5 +1,5 @@
 -- The way from a node to the root, and an arrow's automaton.
-use Rattle.std.proofs.Common.{◌≡◌, ℕ, zero, suc, ◌+◌, ◌<◌, ◌≤◌, Bool, true, false, cond, ◌&&◌, ltb, ◌⊎◌, List, [], ◌∷◌, length, get_or, Some, None, Option, sym, ap, ◌∙◌, inl, inr, ⊎_elim, arith}
+use Rattle.std.proofs.Common.{◌≡◌, ℕ, suc, ◌+◌, ◌<◌, ◌≤◌, Bool, true, false, cond, ◌&&◌, ltb, ◌⊎◌, List, [], ◌∷◌, length, get_or, Some, None, Option, sym, ap, ◌∙◌, inl, inr, ⊎_elim, arith}
 use Rattle.std.proofs.lemmas.List.{get_or_past}
 use Rattle.std.proofs.lemmas.Bool.{cases_lt, cases_Bool, and_parts, ltb-true}
 use Rattle.notation.specs.Parts.{children_of, binds, states_of, blank_node, blank_arrow}
@@ -29,10 +29,6 @@ pub above_more : (ns : List Node) (s t k p above here : ℕ) (all : ℕ) → s �
 above_more ns s t k p above here all e h n i =
     let u : binders_within s ns k ≡ binder_at ns p + binders_within t ns p = rw e (ap (binders_from (binders_within t ns) ns) h) in
     omega arith
-
-pub above-end : (ns : List Node) (s k above all : ℕ) → parent_of ns k ≡ None → above + binders_within s ns k ≡ all → above ≡ all
-above-end ns zero k above all h i = omega arith
-above-end ns (suc s) k above all h i = let u : binders_within (suc s) ns k ≡ 0 = ap (binders_from (binders_within s ns) ns) h in omega arith
 
 -- an arrow's automaton is one of the nodes
 pub arrow-node : (ns : List Node) (ws : List Arrow) (j : ℕ) → arrows_sound ns ws ≡ true → j < length ws → (get_or ws j blank_arrow).node < length ns

@@ -1,15 +1,12 @@
-ghost use Rattle.std.specs.Prelude.{◌≡◌, ◌<◌, ◌≤◌, length, Some, None, MatchResult, slice_index_or};
-ghost use Rattle.fault.specs.Asking.{refusal};
+ghost use Rattle.std.specs.Prelude.{◌≡◌, ◌<◌, ◌≤◌, length, slice_index_or};
+ghost use Rattle.fault.specs.Asking.{Answers};
 ghost use Rattle.notation.specs.Parts.{binds, blank_node, blank_arrow};
 ghost use Rattle.procedure.specs.Scopes.{parent_of, attached, binders_above, binders_few, in_scope};
 ghost use Rattle.procedure.specs.Reading.{root_asks, binder_asks, scope_asks, whole_asks};
 
 use crate::asking::ask_each;
 use crate::draft::Draft;
-use fault::fault::{Fault, Question};
-
-/// The place of a refusal that concerns no node: a number like any other place, since a report prints it.
-const NO_NODE: usize = 65_535;
+use fault::fault::{Fault, NO_NODE, Question};
 
 impl Draft {
     /// The node of which a node is a child.
@@ -30,7 +27,7 @@ impl Draft {
 
     /// Question 8: there is a node, and every node but the last is a child.
     fn rooted(&self) -> Result<(), Fault>
-        ensures { MatchResult result (λ _. refusal (root_asks self.now) ≡ None) (λ f. refusal (root_asks self.now) ≡ Some f) }
+        ensures { Answers (root_asks self.now) result }
     {
         if self.nodes.is_empty() {
             return Err(Question::OneRoot.at(NO_NODE));
@@ -51,7 +48,7 @@ impl Draft {
         self.nodes.as_slice()[node].is_binder()
     }
 
-    /// How many binders stand above a node. No way to the root is longer than there are nodes.
+    /// How many binders stand above a node. It takes no more steps than there are nodes, since no way to the root is longer.
     fn binders_above(&self, node: usize) -> usize
         requires { node < 64 }
         ensures { result ≡ binders_above self.now.nodes node }
@@ -78,7 +75,7 @@ impl Draft {
 
     /// Question 9: every binder is under at most one other.
     fn binders_fit(&self) -> Result<(), Fault>
-        ensures { MatchResult result (λ _. refusal (binder_asks self.now) ≡ None) (λ f. refusal (binder_asks self.now) ≡ Some f) }
+        ensures { Answers (binder_asks self.now) result }
     {
         ask_each(
             Question::BindersFew,
@@ -99,7 +96,7 @@ impl Draft {
 
     /// Question 10: every arrow's variables are in scope.
     fn arrows_fit(&self) -> Result<(), Fault>
-        ensures { MatchResult result (λ _. refusal (scope_asks self.now) ≡ None) (λ f. refusal (scope_asks self.now) ≡ Some f) }
+        ensures { Answers (scope_asks self.now) result }
     {
         ask_each(
             Question::VariablesInScope,
@@ -110,7 +107,7 @@ impl Draft {
 
     /// Questions 8 to 10, of everything that was read.
     pub(crate) fn whole(&self) -> Result<(), Fault>
-        ensures { MatchResult result (λ _. refusal (whole_asks self.now) ≡ None) (λ f. refusal (whole_asks self.now) ≡ Some f) }
+        ensures { Answers (whole_asks self.now) result }
     {
         self.rooted()?;
         self.binders_fit()?;

@@ -13,6 +13,9 @@ use fault::fault::{Fault, Question};
 use notation::arrow::{Argument, Arrow};
 use notation::node::{Labels, Mark, Node, State, States};
 
+/// Stands for no child and no guard.
+const NONE: u16 = 65_535;
+
 impl Record<'_> {
     /// The state whose mark and child stand at `offset`.
     fn state(&self, offset: usize) -> Result<State, Fault>
@@ -21,8 +24,8 @@ impl Record<'_> {
     {
         let mark = self.field(offset)?;
         let child = self.field(offset + 2)?;
-        let child = (child != 65535).then_some(child);
-        // two fields decide a mark, so it is no `TryFrom` of its number
+        let child = (child != NONE).then_some(child);
+        // two fields decide a mark, and no `TryFrom` of a pair could stand in this crate, which has neither type
         let mark = match (mark, child) {
             (0, _) => Mark::Unmarked,
             (1, _) => Mark::Shallow,
@@ -42,7 +45,7 @@ impl Record<'_> {
     {
         let kind = self.field(offset)?;
         let value = self.field(offset + 2)?;
-        // two fields decide an argument, so it is no `TryFrom` of its kind's number
+        // two fields decide an argument, and no `TryFrom` of a pair could stand in this crate, which has neither type
         match (kind, value) {
             (0, 0) => Ok(Argument::Absent),
             (1, _) => Ok(Argument::Constant(value)),
@@ -98,7 +101,7 @@ impl Record<'_> {
     {
         match self.field(offset)? {
             guard @ 0..=31 => Ok(Some(guard)),
-            65535 => Ok(None),
+            NONE => Ok(None),
             _ => Err(self.fault(Question::FieldsInRange)),
         }
     }

@@ -52,7 +52,7 @@ impl Ranges {
         Ranges { entries: [None; 8] }
     }
 
-    // A guard host has the same chain of library calls for its entries; the two crates share nothing else, so each keeps its own.
+    // a guard host has this chain of three library calls for its entries; a crate for the two to share would hold nothing else
     fn range(&self, ty: u16) -> Option<Range>
         ensures finds { result ≡ slice_index_or self.now.entries ty None }
         ensures fits { in_range result ≡ true }

@@ -1,5 +1,5 @@
 -- Small diagrams, with the rows and menus that the rules give them. They stand here because a mistake in a rule shows in them at once.
-use Rattle.std.specs.Prelude.{◌&&◌, ◌≡◌, ℕ, Bool, cond, true, false, ◌↔◌, List, [], ◌∷◌, length, Some, None, ◌==◌}
+use Rattle.std.specs.Prelude.{◌&&◌, ◌≡◌, ℕ, Bool, cond, true, false, ◌↔◌, List, [], ◌∷◌, Some, None, ◌==◌}
 use mathlib.Core.List.{Memᴰ}
 use Rattle.notation.specs.Parts.{blank_state}
 use Rattle.notation.specs.declared.node.Mark.{Mark}

@@ -50,7 +50,7 @@ impl fmt::Display for Road<'_> {
     }
 }
 
-// one of two words: a newtype with a `Display` of its own would say no more
+// a word for each case: a newtype with a `Display` would be this and more
 fn wait_text(waits: bool) -> &'static str
     ensures { result.now ≡ text_of_wait waits }
 {

@@ -4,7 +4,7 @@ ghost use Rattle.text.specs.Texts.{each};
 
 use std::fmt;
 
-/// What a list is made of, written with its number in the list.
+/// What a list is made of, written by its number in the list, where the text has one.
 pub(crate) trait Numbered {
     ghost text: { ℕ → Self → List ℕ };
 

@@ -1,11 +1,8 @@
 ghost use Rattle.std.specs.Prelude.{◌≡◌, Some};
 ghost use Rattle.text.specs.Texts.{refused_line, text_of_question, answer_text, reason_line};
 
-use fault::fault::{Fault, Question};
+use fault::fault::{Fault, NO_NODE, Question};
 use std::fmt;
-
-/// The place of a refusal that concerns no node: a number like any other place, since a report prints it.
-const NO_NODE: usize = 65_535;
 
 /// The first line of a refusal: `refused: number 5, layer 1, place 3`.
 #[derive(Clone, Copy)]
@@ -33,7 +30,7 @@ impl fmt::Display for ReasonLine {
     }
 }
 
-// one of some words: a newtype with a `Display` of its own would say no more
+// a word for each case: a newtype with a `Display` would be this match and more, and `Question` itself has no text of the program's
 fn question_text(question: Question) -> &'static str
     ensures { result.now ≡ text_of_question question }
 {

@@ -62,7 +62,7 @@ impl fmt::Display for NumberedState {
     }
 }
 
-// one of three words: a newtype with a `Display` of its own would say no more
+// a word for each case: a newtype with a `Display` would be this match and more, and `Mark` itself has no text of the program's
 fn mark_text(mark: Mark) -> &'static str
     ensures { result.now ≡ text_of_mark mark }
 {
