@@ -1,12 +1,10 @@
 -- The first no among questions that are asked one after the other.
 use Rattle.std.proofs.Common.{◌≡◌, ℕ, zero, suc, ◌<◌, Bool, true, false, List, [], ◌∷◌, ◌++◌, Some, None, Option, Result, MatchResult, sym, refl, ap, ◌∙◌, ⊎_elim, arith}
 use Rattle.std.proofs.lemmas.Bool.{cases_Bool, cases_lt}
+use Rattle.std.proofs.lemmas.Option.{none-some}
 use Rattle.fault.specs.Asking.{Asked, refusal, AllYes, FirstNo, asked_up_to, asked_of_each, answer_or}
 use Rattle.fault.specs.declared.fault.Question.{Question}
 use Rattle.fault.specs.declared.fault.Fault.{Fault}
-
-clash : {f : Fault} → None ≡ Some f → ⊥
-clash e = let z : ◌≡◌ {A = ℕ} 0 1 = cc in omega arith
 
 -- all yes in front: what comes behind decides
 pub refusal-more : (xs ys : List Asked) → refusal xs ≡ None → refusal (xs ++ ys) ≡ refusal ys
@@ -14,12 +12,12 @@ refusal-more [] ys h = refl
 refusal-more (x ∷ xs) ys h =
     ⊎_elim
     (λ t. rw t (refusal-more xs ys (rw t at h)))
-    (λ f. absurd (clash (sym (rw f at h))))
+    (λ f. absurd (none-some _ (sym (rw f at h))))
     (cases_Bool x.yes)
 
 -- a no in front: what comes behind does not matter
 pub refusal-stop : (xs ys : List Asked) (f : Fault) → refusal xs ≡ Some f → refusal (xs ++ ys) ≡ Some f
-refusal-stop [] ys f h = absurd (clash h)
+refusal-stop [] ys f h = absurd (none-some _ h)
 refusal-stop (x ∷ xs) ys f h =
     ⊎_elim
     (λ t. rw t (refusal-stop xs ys f (rw t at h)))
@@ -42,7 +40,7 @@ first-asked (suc n) i g f lt h s =
 -- all are answered yes exactly where there is no refusal
 pub all_yes : (xs : List Asked) → refusal xs ≡ None → AllYes xs
 all_yes [] h = tt
-all_yes (x ∷ xs) h = ⊎_elim (λ t. (t, all_yes xs (rw t at h))) (λ f. absurd (clash (sym (rw f at h)))) (cases_Bool x.yes)
+all_yes (x ∷ xs) h = ⊎_elim (λ t. (t, all_yes xs (rw t at h))) (λ f. absurd (none-some _ (sym (rw f at h)))) (cases_Bool x.yes)
 
 pub no-refusal : (xs : List Asked) → AllYes xs → refusal xs ≡ None
 no-refusal [] h = refl
@@ -50,7 +48,7 @@ no-refusal (x ∷ xs) h = rw h.0 (no-refusal xs h.1)
 
 -- and a refusal is the first that is answered no
 pub first-no : (xs : List Asked) (f : Fault) → refusal xs ≡ Some f → FirstNo xs f
-first-no [] f h = absurd (clash h)
+first-no [] f h = absurd (none-some _ h)
 first-no (x ∷ xs) f h =
     ⊎_elim
     (λ t.
@@ -75,7 +73,7 @@ refusal-parts [] ys h = (refl, h)
 refusal-parts (x ∷ xs) ys h =
     ⊎_elim
     (λ t. let r = refusal-parts xs ys (rw t at h) in (rw t r.0, r.1))
-    (λ f. absurd (clash (sym (rw f at h))))
+    (λ f. absurd (none-some _ (sym (rw f at h))))
     (cases_Bool x.yes)
 
 pub asked-each : (n : ℕ) (g : ℕ → List Asked) → refusal (asked_up_to n g) ≡ None → (i : ℕ) → i < n → refusal (g i) ≡ None
@@ -85,7 +83,7 @@ asked-each (suc n) g h i lt =
     ⊎_elim (λ l. asked-each n g r.0 i l) (λ ge. let e : n ≡ i = omega arith in rw e at r.1) (cases_lt i n)
 
 pub yes-first : (x : Asked) (xs : List Asked) → refusal (x ∷ xs) ≡ None → (x.yes ≡ true) × (refusal xs ≡ None)
-yes-first x xs h = ⊎_elim (λ t. (t, rw t at h)) (λ f. absurd (clash (sym (rw f at h)))) (cases_Bool x.yes)
+yes-first x xs h = ⊎_elim (λ t. (t, rw t at h)) (λ f. absurd (none-some _ (sym (rw f at h)))) (cases_Bool x.yes)
 
 -- one question of each number below n: all are answered yes, or the first no is at i
 pub each-yes : (q : Question) (n : ℕ) (g : ℕ → Bool) → ((k : ℕ) → k < n → g k ≡ true) → refusal (asked_of_each q n g) ≡ None

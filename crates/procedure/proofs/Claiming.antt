@@ -1,6 +1,7 @@
 -- Claims of children: one after the other, and what they come to.
 use Rattle.std.proofs.Common.{◌≡◌, ℕ, suc, ◌+◌, ◌<◌, ◌≤◌, Bool, true, false, cond, not, ◌&&◌, ◌||◌, eqb, ltb, List, [], ◌∷◌, ◌++◌, length, get_or, set, is_some, Some, None, Option, sym, refl, ap, ◌∙◌, ⊎_elim, append_assoc, add-zero, arith}
 use Rattle.std.proofs.lemmas.List.{append-nil, length-set, get_or-set_same, get_or-set_other}
+use Rattle.std.proofs.Math.Bool.{or-false, or_assoc}
 use Rattle.std.proofs.lemmas.Bool.{cases_eq, cases_Bool, and_parts, or_left, or_right, not-true, not-false, ltb-true, ltb-false, lt-ltb, le-ltb, eq-eqb, ne_eqb, and_cases, and_right}
 use Rattle.notation.specs.Parts.{children_of}
 use Rattle.notation.specs.declared.node.Node.{Node}
@@ -9,11 +10,7 @@ use Rattle.procedure.specs.Scopes.{among, parent_from, parent_of, children_free}
 
 among-append : (k : ℕ) (xs ys : List ℕ) → among k (xs ++ ys) ≡ (among k xs || among k ys)
 among-append k [] ys = refl
-among-append k (x ∷ xs) ys = ap (λ a. eqb x k || a) (among-append k xs ys) ∙ or_assoc (eqb x k) (among k xs) (among k ys)
-  where
-    or_assoc : (a b c : Bool) → (a || (b || c)) ≡ ((a || b) || c)
-    or_assoc true b c = refl
-    or_assoc false b c = refl
+among-append k (x ∷ xs) ys = ap (λ a. eqb x k || a) (among-append k xs ys) ∙ sym (or_assoc (eqb x k) (among k xs) (among k ys))
 
 parent-from : (i : ℕ) (ns : List Node) (n : Node) (k : ℕ) (f : Option ℕ)
     → parent_from i (ns ++ n ∷ []) k f ≡ cond (among k (children_of n)) (Some (i + length ns)) (parent_from i ns k f)
@@ -36,10 +33,6 @@ among-last k xs = among-append k xs (k ∷ []) ∙ or_right (among k xs) (eqb k 
 
 among-other : (j k : ℕ) (xs : List ℕ) → (j ≡ k → ⊥) → among j (xs ++ k ∷ []) ≡ among j xs
 among-other j k xs ne = among-append j xs (k ∷ []) ∙ rw (ne_eqb k j (λ e. ne (sym e))) (or-false (among j xs))
-  where
-    or-false : (a : Bool) → (a || false) ≡ a
-    or-false true = refl
-    or-false false = refl
 
 table-set : (m : ℕ) (ns : List Node) (before : List ℕ) (t : List (Option ℕ)) (k : ℕ) → k < 64 → Parents m ns before t → Parents m ns (before ++ k ∷ []) (set t k (Some m))
 table-set m ns before t k lt h =
@@ -54,7 +47,7 @@ table-set m ns before t k lt h =
     }
 
 free-both : (m : ℕ) (a : Bool) (p : Option ℕ) → is_some (cond a (Some m) p) ≡ false → (a ≡ false) × (is_some p ≡ false)
-free-both m true p h = let z : ◌≡◌ {A = Bool} true false = h in let y : ◌≡◌ {A = ℕ} 0 1 = cc in absurd (omega arith)
+free-both m true p h = let z : ◌≡◌ {A = Bool} true false = h in cc
 free-both m false p h = (refl, h)
 
 pub claims-yes : (m : ℕ) (ns : List Node) (before ks : List ℕ) (t u : List (Option ℕ)) → m ≡ length ns → m ≤ 64 → Parents m ns before t
@@ -70,7 +63,7 @@ claims-yes m ns before (k ∷ ks) t u e le tab h =
     let r = claims-yes m ns (before ++ k ∷ []) ks (set t k (Some m)) u e le (table-set m ns before t k lt' tab) (sym (ap (λ b. cond b (claims m (set t k (Some m)) ks) None) y) ∙ h) in
     let low : ltb k (length ns) ≡ true = lt-ltb k (length ns) (omega arith) in
     (rw (low, f.1, f.0) r.0, rw append_assoc at r.1))
-    (λ z. let q : None ≡ Some u = sym (ap (λ b. cond b (claims m (set t k (Some m)) ks) None) z) ∙ h in let y : ◌≡◌ {A = ℕ} 0 1 = cc in absurd (omega arith))
+    (λ z. let q : None ≡ Some u = sym (ap (λ b. cond b (claims m (set t k (Some m)) ks) None) z) ∙ h in cc)
     (cases_Bool (ltb k m && not (is_some (get_or t k None))))
 
 taken-either : (m : ℕ) (a : Bool) (p : Option ℕ) (r : Bool) → is_some (cond a (Some m) p) ≡ true → (not (is_some p) && (not a && r)) ≡ false
@@ -79,7 +72,7 @@ taken-either m false p r h = rw h refl
 
 pub claims-no : (m : ℕ) (ns : List Node) (before ks : List ℕ) (t : List (Option ℕ)) → m ≡ length ns → m ≤ 64 → Parents m ns before t
     → claims m t ks ≡ None → children_free ns before ks ≡ false
-claims-no m ns before [] t e le tab h = let y : ◌≡◌ {A = ℕ} 0 1 = cc in absurd (omega arith)
+claims-no m ns before [] t e le tab h = cc
 claims-no m ns before (k ∷ ks) t e le tab h =
     ⊎_elim
     (λ y.

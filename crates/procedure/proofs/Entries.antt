@@ -82,7 +82,7 @@ code-next c x y rest f =
     (λ h e. let s : x ≡ y = cc in eqb-true c (code_of x) h ∙ ap code_of s) (λ h e. f e)
 
 code-none : (c : ℕ) (y : Kind) → None ≡ Some y → c ≡ code_of y
-code-none c y e = let z : ◌≡◌ {A = ℕ} 0 1 = cc in absurd (omega arith)
+code-none c y e = cc
 
 pub kind-code : (c : ℕ) (y : Kind) → kind_of c ≡ Some y → c ≡ code_of y
 kind-code c y =

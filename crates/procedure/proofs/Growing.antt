@@ -1,6 +1,6 @@
 -- A draft that takes one node or one arrow more, and why it may not.
 use Rattle.std.proofs.Common.{◌≡◌, ℕ, ◌<◌, ◌≤◌, Bool, true, ◌&&◌, ltb, leb, List, [], ◌∷◌, ◌++◌, length, get_or, take, replicate, Some, None, Option, sym, refl, ap, ◌∙◌, ⊎_elim, arith}
-use Rattle.std.proofs.lemmas.List.{length_push, take-append-le, get_or_append_left, get_or_push, get_or_past, get_or-replicate, length-replicate}
+use Rattle.std.proofs.lemmas.List.{take_all, length_push, take-append-le, get_or_append_left, get_or_push, get_or_past, get_or-replicate, length-replicate}
 use Rattle.std.proofs.lemmas.Bool.{cases_lt, and_parts, and_from, ltb-true, le-leb}
 use Rattle.fault.specs.Asking.{refusal}
 use Rattle.fault.specs.declared.fault.Question.TheVariants.{ChildrenFree}
@@ -25,12 +25,8 @@ nodes-push ns n s h f =
     let old : all_below (length ns) (test (ns ++ n ∷ [])) ≡ true =
     all-as (test ns) (test (ns ++ n ∷ [])) (length ns) (λ i lt y. let le : i ≤ length ns = omega arith in rw (get_or_append_left ns (n ∷ []) blank_node i lt, take-append-le i ns (n ∷ []) le) y) s in
     let last : test (ns ++ n ∷ []) (length ns) ≡ true =
-    rw (get_or_push ns n blank_node (length ns) refl, take-append-le (length ns) ns (n ∷ []) (omega arith), take_whole ns, h) f in
+    rw (get_or_push ns n blank_node (length ns) refl, take-append-le (length ns) ns (n ∷ []) (omega arith), take_all (length ns) ns (omega arith), h) f in
     rw length_push (all_more (test (ns ++ n ∷ [])) (length ns) old last)
-  where
-    take_whole : (xs : List Node) → take (length xs) xs ≡ xs
-    take_whole [] = refl
-    take_whole (x ∷ xs) = ap (λ r. x ∷ r) (take_whole xs)
 
 placed-push : (ns : List Node) (n : Node) (a : Arrow) → arrow_placed ns a ≡ true → arrow_placed (ns ++ n ∷ []) a ≡ true
 placed-push ns n a h =

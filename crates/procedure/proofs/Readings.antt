@@ -88,7 +88,7 @@ accepted-framed b h =
         (and_parts (ranged b at) (few (grown d (entry_here b at))) (yes-first (record { question = FieldsInRange; place = place; yes = ranged b at && few (grown d (entry_here b at)) }) (record { question = ChildrenFree; place = place; yes = entry_free d.nodes (entry_here b at) } ∷ record { question = ArrowPlaced; place = place; yes = entry_placed d.nodes (entry_here b at) } ∷ []) h).0).0
 
 ok-err : {d : ℕ} {f : Fault} → ◌≡◌ {A = Result ℕ Fault} (Ok d) (Err f) → ⊥
-ok-err e = let z : ◌≡◌ {A = ℕ} 0 1 = cc in omega arith
+ok-err e = cc
 
 module _ (b : List ℕ) where
   refused-then : (o : Option Fault) → refusal (asks b) ≡ o → (f : Fault) → answer_of (answer_or o (drawn_by b (records b))) ≡ Err f → Refused b f
@@ -103,7 +103,7 @@ module _ (b : List ℕ) where
 
   accepted-then : (o : Option Fault) → refusal (asks b) ≡ o → is_ok (answer_of (answer_or o (drawn_by b (records b)))) ≡ true → Accepted b
   accepted-then None h e = all_yes (asks b) h
-  accepted-then (Some g) h e = let z : ◌≡◌ {A = ℕ} 0 1 = cc in absurd (omega arith)
+  accepted-then (Some g) h e = cc
 
   pub accepted-reading : Accepted b → reading b ≡ Ok (drawn_by b (records b))
   accepted-reading a = ap (λ o. answer_or o (drawn_by b (records b))) (no-refusal (asks b) a)

@@ -120,8 +120,8 @@ entry-again (e.Arrow a) h = arrow-again a h
 -- records tell their entries
 pub records-once : (xs ys : List Entry) → NeatEntries xs → NeatEntries ys → records_of xs ≡ records_of ys → xs ≡ ys
 records-once [] [] h g same = refl
-records-once [] (y ∷ ys) h g same = let z : ◌≡◌ {A = ℕ} 0 1 = cc in absurd (omega arith)
-records-once (x ∷ xs) [] h g same = let z : ◌≡◌ {A = ℕ} 0 1 = cc in absurd (omega arith)
+records-once [] (y ∷ ys) h g same = cc
+records-once (x ∷ xs) [] h g same = cc
 records-once (x ∷ xs) (y ∷ ys) h g same =
     let l : 2 * length (fields_of x) ≡ 2 * length (fields_of y) = cc in
     let t : fields_of x ++ records_of xs ≡ fields_of y ++ records_of ys = cc in

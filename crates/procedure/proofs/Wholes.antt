@@ -22,7 +22,7 @@ parent-within i (n ∷ ns) k f p h =
 
 -- a parent is one of the nodes
 pub parent-below : (ns : List Node) (k p : ℕ) → parent_of ns k ≡ Some p → p < length ns
-parent-below ns k p h = ⊎_elim (λ e. let z : ◌≡◌ {A = ℕ} 0 1 = cc in absurd (omega arith)) (λ lt. omega arith) (parent-within 0 ns k None p h)
+parent-below ns k p h = ⊎_elim (λ e. cc) (λ lt. omega arith) (parent-within 0 ns k None p h)
 
 -- on the way to the root: one node further, and the end
 pub above_more : (ns : List Node) (s t k p above here : ℕ) (all : ℕ) → s ≡ suc t → parent_of ns k ≡ Some p → here ≡ binder_at ns p → above + binders_within s ns k ≡ all → (above + here) + binders_within t ns p ≡ all

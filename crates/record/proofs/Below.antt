@@ -1,11 +1,8 @@
 -- A test that holds of every number below a bound.
 use Rattle.std.proofs.Common.{◌≡◌, ℕ, zero, suc, ◌+◌, ◌<◌, Bool, true, false, ◌&&◌, sym, refl, ap, ◌∙◌, ⊎_elim, add-one, arith}
+use Rattle.std.proofs.Math.Bool.{and-false}
 use Rattle.std.proofs.lemmas.Bool.{cases_lt, cases_Bool}
 use Rattle.record.specs.Ranges.{all_below}
-
-and-false : (a : Bool) → a && false ≡ false
-and-false true = refl
-and-false false = refl
 
 pub all_more : (f : ℕ → Bool) (n : ℕ) → all_below n f ≡ true → f n ≡ true → all_below (n + 1) f ≡ true
 all_more f n a h = rw add-one (rw (a, h) refl)
@@ -18,7 +15,7 @@ all-stop f (suc n) i lt h =
     (cases_lt i n)
 
 pub all-at : (f : ℕ → Bool) (n i : ℕ) → all_below n f ≡ true → i < n → f i ≡ true
-all-at f n i a lt = ⊎_elim (λ h. h) (λ h. let s = sym a ∙ all-stop f n i lt h in let z : ◌≡◌ {A = ℕ} 0 1 = cc in absurd (omega arith)) (cases_Bool (f i))
+all-at f n i a lt = ⊎_elim (λ h. h) (λ h. let s = sym a ∙ all-stop f n i lt h in cc) (cases_Bool (f i))
 
 pub all_from : (f : ℕ → Bool) (n : ℕ) → ((i : ℕ) → i < n → f i ≡ true) → all_below n f ≡ true
 all_from f zero h = refl
