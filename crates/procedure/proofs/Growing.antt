@@ -45,9 +45,9 @@ arrows-kept ns n ws h =
     (λ j lt y. let p = and_parts (arrow_sound (get_or ws j blank_arrow)) (arrow_placed ns (get_or ws j blank_arrow)) y in and_from (arrow_sound (get_or ws j blank_arrow)) (arrow_placed (ns ++ n ∷ []) (get_or ws j blank_arrow)) p.0 (placed-push ns n (get_or ws j blank_arrow) p.1)) h
 
 -- the node is taken
-pub node-more : (d : Inside) (n : Node) (u : List (Option ℕ)) (place : ℕ) → Faithful d → node_sound n ≡ true → length d.nodes.items < 64 → claims (length d.nodes.items) d.parents (children_of n) ≡ Some u
+pub node-more : (d : Inside) (n : Node) (u : List (Option ℕ)) → Faithful d → node_sound n ≡ true → length d.nodes.items < 64 → claims (length d.nodes.items) d.parents (children_of n) ≡ Some u
     → (t : Table Node) → t.items ≡ d.nodes.items ++ n ∷ [] → Faithful (record { nodes = t; arrows = d.arrows; parents = u })
-node-more d n u place s h lt c t e =
+node-more d n u s h lt c t e =
     let y = claims-yes (length d.nodes.items) d.nodes.items [] (children_of n) d.parents u refl s.few-nodes (record { long = s.parent-places; at = s.parents }) c in
     record {
       few-nodes = rw (e, length_push) (omega arith);

@@ -6,6 +6,7 @@ use crate::procedure::Procedure;
 use notation::arrow::Arrow;
 use notation::node::Node;
 
+// nodes and arrows are two lists of two types, and each call names one: a generic call would have to be told which
 impl Procedure {
     /// How many nodes it has.
     pub fn node_count(&self) -> usize

@@ -5,7 +5,7 @@ use crate::each::{Each, Numbered};
 use notation::node::Labels;
 use std::fmt;
 
-/// A set of labels: `labels 2, 5` or `no labels`.
+/// A set of labels: `labels 2, 5` or `no labels`. Its words and its first element are its own; what follows is `Each`, as for states.
 #[derive(Clone, Copy)]
 pub struct LabelSet<'a>(pub &'a Labels);
 

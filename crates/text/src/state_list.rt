@@ -5,7 +5,8 @@ use crate::each::{Each, Numbered};
 use notation::node::{Mark, State, States};
 use std::fmt;
 
-/// The states of an automaton, each with its number: `states 0, 1 shallow, 2 deep child 3`.
+/// The states of an automaton, each with its number: `states 0, 1 shallow, 2 deep child 3`. Its words and its first element are its
+/// own; what follows is `Each`, as for labels.
 #[derive(Clone, Copy)]
 pub struct StateList<'a>(pub &'a States);
 

@@ -7,7 +7,7 @@ pub returns-in_err-claim_children : goal.returns-in_err-claim_children
 returns-in_err-claim_children c = grind (arith, common_steps, node-taken)
 
 pub invariant_of-self : goal.invariant_of-self
-invariant_of-self c = node-more c.self.inside c.args.node c.claim_children.new.self.parents c.args.place c.self.invariant c.requires (search rules) (search rules) c.push.new.self c.push.ensures.holds_one_more
+invariant_of-self c = node-more c.self.inside c.args.node c.claim_children.new.self.parents c.self.invariant c.requires (search rules) (search rules) c.push.new.self c.push.ensures.holds_one_more
 
 pub returns : goal.returns
 returns c =
