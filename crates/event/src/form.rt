@@ -11,6 +11,7 @@ impl Event {
         ensures refuses_at_the_first_wrong_field { result ≡ answer_or (refusal (form_asks self.now)) tt }
         ensures accepts_exactly_events_in_form { (is_ok result ≡ true) ↔ InForm self.now }
     {
+        // a rule of the project: the place is the wrong field's number, from 0
         if self.label > 255 {
             return Err(Question::EventInForm.at(0));
         }

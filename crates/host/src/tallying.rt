@@ -51,6 +51,7 @@ impl Tallies {
         ensures replaces_one_entry_unless_refused { UnlessRefused result (self.new.entries ≡ slice_set self.old.entries guard (Some (record { label = label; bound = bound; told = 0 }))) }
         ensures answers_while_fewer_than_the_bound_unless_refused { UnlessRefused result ((w : List Event) → tallies_answer self.new.entries w guard ≡ nat_lt (events_of label w) bound) }
     {
+        // a rule of the project: the place is the wrong field's number, from 0
         if guard > 31 {
             return Err(Question::SettingInRange.at(0));
         }

@@ -65,12 +65,13 @@ impl Node {
     }
 
     /// The number of states of an automaton, 0 for any other node: no state is below 0, which is all that a reading asks, so no `Option`.
-    pub fn states(&self) -> usize
+    pub fn states(&self) -> u16
         ensures counts_states { result ≡ states_of self.now }
         ensures at_most_32 { result ≤ 32 }
     {
         match self {
-            Node::Automaton { states } => states.table.len(),
+            // at most 32, so nothing is cut off
+            Node::Automaton { states } => states.table.len() as u16,
             _ => 0,
         }
     }

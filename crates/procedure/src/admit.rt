@@ -46,6 +46,7 @@ impl Draft {
         }
         let mut claims = Claims {
             parents: self.parents,
+            // at most 64, so nothing is cut off
             node: self.nodes.len() as u16,
             place,
         };
@@ -56,7 +57,7 @@ impl Draft {
     }
 
     /// The number of states of a node read so far, 0 where it is no automaton or not there.
-    fn states_of(&self, node: u16) -> usize
+    fn states_of(&self, node: u16) -> u16
         ensures { result ≡ states_of (slice_index_or self.now.nodes node blank_node) }
     {
         match self.nodes.as_slice().get(usize::from(node)) {
@@ -70,7 +71,7 @@ impl Draft {
         ensures { result ≡ arrow_placed self.now.nodes arrow.now }
     {
         let states = self.states_of(arrow.node);
-        usize::from(arrow.from) < states && usize::from(arrow.to) < states
+        arrow.from < states && arrow.to < states
     }
 
     /// Questions 5 and 7 of an arrow after the others, as far as they are still open.

@@ -8,6 +8,8 @@ use crate::asking::ask_each;
 use crate::draft::Draft;
 use fault::fault::{Fault, NO_NODE, Question};
 
+// That a node's number is below a draft's count is a fact about the two, and no type of either could hold it.
+
 impl Draft {
     /// The node of which a node is a child.
     fn parent_of(&self, node: usize) -> Option<u16>

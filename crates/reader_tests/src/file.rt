@@ -1,7 +1,8 @@
 use notation::table::Table;
 use procedure::procedure::Procedure;
 
-/// What a reading tells: the number of nodes, or the question, the layer and the place of the refusal.
+/// What a reading tells: the number of nodes, or the question, the layer and the place of the refusal, in numbers, since a mistake in
+/// these must not hide in its own tests.
 pub(crate) type Told = Result<usize, (u8, u8, usize)>;
 
 /// What a reading tells of these bytes.
@@ -31,6 +32,7 @@ impl File {
 
     /// Appends a record: its length, and then these fields.
     pub(crate) fn record(&mut self, fields: &[u16]) {
+        // cut to 16 bits, as a length of more bytes would be
         self.field((fields.len() * 2 % 65536) as u16);
         for value in fields {
             self.field(*value);

@@ -45,6 +45,7 @@ fn read_bytes(rt: &impl Abort, cases: &[(&str, &[u8], Told)]) {
 }
 
 /// Reads each file of records, and compares what the reading tells.
+// beside `read_bytes`, since a case of records has to be made into a file
 fn read_records(rt: &impl Abort, cases: &[(&str, &[&[u16]], Told)]) {
     for (name, records, told) in cases {
         let mut file = File::new();

@@ -13,6 +13,8 @@ use fault::fault::{Fault, Question};
 use notation::arrow::{Argument, Arrow};
 use notation::node::{Labels, Mark, Node, State, States};
 
+// Each function says how far the bytes must reach from its own offset on: there is no one fact of a record behind these.
+
 /// Stands for no child and no guard.
 const NONE: u16 = 65_535;
 

@@ -17,6 +17,7 @@ pub struct Frame {
 
 impl Record<'_> {
     /// The count of a record of this kind, 0 where it has none.
+    // a `Result` without a refusal: a rule of the project has what reads fields answer one, which `?` carries
     fn count(&self, kind: Kind) -> Result<u16, Fault>
         requires { self.now.at + 2 + shortest_of kind ≤ length self.now.bytes.now }
         ensures { MatchResult result (λ n. n ≡ count_at kind self.now.bytes.now self.now.at) (λ _. ⊥) }

@@ -15,7 +15,7 @@ pub enum Kind {
     Arrow,
 }
 
-/// A number that no kind has.
+/// A number that no kind has: this crate's own error, as the guard hosts have theirs.
 #[derive(Clone, Copy, Debug, PartialEq, Eq)]
 pub struct UnknownKind(pub u16);
 

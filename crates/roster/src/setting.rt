@@ -17,6 +17,7 @@ impl Range {
             (λ range. (range ≡ record { first = first; count = count }) × (in_range (Some range) ≡ true) × (ty ≤ 7) × (refusal (range_asks ty first count) ≡ None))
             (λ f. refusal (range_asks ty first count) ≡ Some f) }
     {
+        // a rule of the project: the place is the wrong field's number, from 0
         if ty > 7 {
             return Err(Question::SettingInRange.at(0));
         }
