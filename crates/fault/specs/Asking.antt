@@ -45,7 +45,7 @@ answer_or (Some f) x = Err f
 abbrev pub Answers : {X : Type 0} → List Asked → Result X Fault → Type 0
 Answers asked r = MatchResult r (λ _. refusal asked ≡ None) (λ f. refusal asked ≡ Some f)
 
--- P holds if the call was refused
+-- P holds if the call was refused (an own word, of calls, for what the library says of results)
 abbrev pub IfRefused : {X : Type 0} → Result X Fault → Type 0 → Type 0
 IfRefused (Ok x) P = Unit {0}
 IfRefused (Err f) P = P

@@ -27,6 +27,6 @@ pub struct Limit {
     pub constant: u16,
 }
 
-/// A number that names no operand, or no comparison.
+/// A number that names no operand, or no comparison. The records have a type like it: one for both crates would have to stand in a third.
 #[derive(Clone, Copy, Debug, PartialEq, Eq)]
 pub struct UnknownNumber(pub u16);

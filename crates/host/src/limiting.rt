@@ -99,6 +99,7 @@ impl Limits {
         ensures answers_by_the_limit_unless_refused { UnlessRefused result ((e : Event) (v : Variables) → limits_answer self.new.entries guard e v ≡ limit_answer (limit_numbered operand comparison constant) e v) }
     {
         let question = Question::SettingInRange;
+        // asked first and stored last, with the other fields between, so this is no one call of `Guards`; a tally likewise
         if guard > 31 {
             return Err(question.at(0));
         }

@@ -31,6 +31,7 @@ impl<T, const N: usize> Model for Table<T, N> {
     } };
 }
 
+// A caller sees the value alone and not its invariant, so calls say again that it fits.
 impl<T: Copy, const N: usize> Table<T, N> {
     /// An empty table, with `blank` in each place.
     pub fn new(blank: T) -> Table<T, N>
@@ -55,6 +56,7 @@ impl<T: Copy, const N: usize> Table<T, N> {
     pub fn len(&self) -> usize
         ensures counts { result ≡ length self.now.items }
         ensures fits { result ≤ N }
+        ensures has_n_places { length self.now.items + length self.now.spare ≡ N }
     {
         self.used
     }

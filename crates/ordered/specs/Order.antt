@@ -1,4 +1,5 @@
--- Lists in rising order without repeats, by a comparison.
+-- Lists in rising order without repeats, by a comparison. (Own words, though the library has some like them: the reader of a promise
+-- meets them here, and they say no more than is promised.)
 use Rattle.std.specs.Prelude.{◌≡◌, ℕ, Bool, false, ◌⊎◌, ◌↔◌, List, [], ◌∷◌, length, take, nat_lt}
 use Rattle.std.specs.declared.cmp.Ordering.TheVariants.{Less, Equal, Greater}
 use Rattle.std.specs.declared.cmp.Ordering.{Ordering}

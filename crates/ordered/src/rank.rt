@@ -5,8 +5,8 @@ ghost use Rattle.std.specs.Ordering.{ordering_reverse};
 
 use std::cmp::Ordering;
 
-/// A total order in which equal values are the same. A trait beside `Ord`, which could say neither that nor an order in a subject's own words,
-/// and which asks for an `==` besides.
+/// A total order in which equal values are the same. It stands beside `Ord`, where equal need not mean the same, and which would ask
+/// an `==` of every element besides.
 pub trait Rank: Sized {
     /// How the first stands to the second.
     ghost rank: { Self → Self → Ordering };

@@ -1,8 +1,8 @@
 use event::event::Event;
 use fault::fault::Fault;
 
-/// What a call tells that answers nothing: the question, the layer and the place of the refusal, in numbers, since a mistake in
-/// these must not hide in its own tests.
+/// What a call tells that answers nothing: the question, the layer and the place of the refusal, in numbers: a `Question`
+/// would say less, since the numbers are what a caller is told.
 pub(crate) type Told = Result<(), (u8, u8, usize)>;
 
 pub(crate) fn told(answer: Result<(), Fault>) -> Told {

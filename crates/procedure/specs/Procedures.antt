@@ -15,7 +15,7 @@ drawing p = record { nodes = p.nodes.items; arrows = p.arrows.items }
 abbrev pub BecomesWhole : Drawing → Result Procedure Fault → Type 0
 BecomesWhole d r = MatchResult r (λ p. (drawing p ≡ d) × (refusal (whole_asks d) ≡ None)) (λ f. refusal (whole_asks d) ≡ Some f)
 
--- one implies the other, both ways
+-- one implies the other, both ways (as the library's arrow does; here in words)
 pub record Exactly (P Q : Type 0) : Type 0 where
   pub then : P → Q
   pub back : Q → P

@@ -4,7 +4,7 @@ use Rattle.notation.specs.Parts.{children_of, binds, states_of, binders_for, bla
 use Rattle.notation.specs.declared.node.Node.{Node}
 use Rattle.notation.specs.declared.arrow.Arrow.{Arrow}
 
--- k is one of the numbers
+-- k is one of the numbers (computed, so an own word)
 abbrev pub among : ℕ → List ℕ → Bool
 among k [] = false
 among k (x ∷ xs) = x == k || among k xs

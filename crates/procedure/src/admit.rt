@@ -60,10 +60,10 @@ impl Draft {
     fn states_of(&self, node: u16) -> u16
         ensures { result ≡ states_of (slice_index_or self.now.nodes node blank_node) }
     {
-        match self.nodes.as_slice().get(usize::from(node)) {
-            Some(node) => node.states(),
-            None => 0,
-        }
+        self.nodes
+            .as_slice()
+            .get(usize::from(node))
+            .map_or(0, |node| node.states())
     }
 
     /// Question 7: the arrow names an automaton read so far, and two states of it.

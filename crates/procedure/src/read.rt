@@ -45,8 +45,8 @@ fn drafted(file: &[u8]) -> Result<Procedure, Fault>
     Procedure::try_from(Draft::of(file)?)
 }
 
-/// What a file gives: a procedure, empty where the file is refused, and the answer. All that `read` promises is proved here, in terms of
-/// two values; `read` itself only stores the one and answers the other.
+/// What a file gives: a procedure, empty where the file is refused, and the answer.
+// `read` promises the same five: proved here of two values, they leave nothing to prove there, where what was held before is about
 fn given(file: &[u8]) -> (Procedure, Result<usize, Fault>)
     ensures answer { result.1 ≡ answer_of (reading file.now) }
     ensures contents { drawing result.0 ≡ left_by (reading file.now) }

@@ -8,7 +8,7 @@ use crate::asking::ask_each;
 use crate::draft::Draft;
 use fault::fault::{Fault, NO_NODE, Question};
 
-// That a node's number is below a draft's count is a fact about the two, and no type of either could hold it.
+// A node's number is below the draft's count: only a type that holds both could say so, as `Claims` does, and it would hold nothing else.
 
 impl Draft {
     /// The node of which a node is a child.

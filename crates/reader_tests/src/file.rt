@@ -1,8 +1,8 @@
 use notation::table::Table;
 use procedure::procedure::Procedure;
 
-/// What a reading tells: the number of nodes, or the question, the layer and the place of the refusal, in numbers, since a mistake in
-/// these must not hide in its own tests.
+/// What a reading tells: the number of nodes, or the question, the layer and the place of the refusal, in numbers: a `Question`
+/// would say less, since the numbers are what a caller is told.
 pub(crate) type Told = Result<usize, (u8, u8, usize)>;
 
 /// What a reading tells of these bytes.

@@ -7,7 +7,7 @@ use procedure::procedure::Procedure;
 use std::process::Abort;
 use std::test::Fail;
 
-// the numbers that a file has, written out: a mistake in `Kind` must not hide in its own tests
+// the numbers that a file has: a `Kind` has no number to give, and a mistake in it must not hide in its own tests
 const AUTOMATON: u16 = 1;
 
 const SEQUENCE: u16 = 2;

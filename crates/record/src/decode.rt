@@ -13,9 +13,9 @@ use fault::fault::{Fault, Question};
 use notation::arrow::{Argument, Arrow};
 use notation::node::{Labels, Mark, Node, State, States};
 
-// Each function says how far the bytes must reach from its own offset on: there is no one fact of a record behind these.
+// Each function says how far the bytes must reach: how long a record is depends on its kind, which only `decode` knows.
 
-/// Stands for no child and no guard.
+/// Stands for no child and no guard in a file, which fixes the number; everywhere else that is an `Option`.
 const NONE: u16 = 65_535;
 
 impl Record<'_> {

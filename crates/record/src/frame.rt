@@ -17,7 +17,7 @@ pub struct Frame {
 
 impl Record<'_> {
     /// The count of a record of this kind, 0 where it has none.
-    // a `Result` without a refusal: a rule of the project has what reads fields answer one, which `?` carries
+    // a `Result`, as a rule of the project has what reads a field answer; here none is a refusal
     fn count(&self, kind: Kind) -> Result<u16, Fault>
         requires { self.now.at + 2 + shortest_of kind ≤ length self.now.bytes.now }
         ensures { MatchResult result (λ n. n ≡ count_at kind self.now.bytes.now self.now.at) (λ _. ⊥) }
@@ -41,6 +41,7 @@ impl Record<'_> {
         if len < 2 || self.bytes.len() - self.at - 2 < len {
             return Err(self.fault(Question::RecordWhole));
         }
+        // `map_err` and `?` were tried: the check leaves a goal that it finds here
         let Ok(kind) = Kind::try_from(number) else {
             return Err(self.fault(Question::KindKnown));
         };

@@ -15,7 +15,7 @@ pub enum Kind {
     Arrow,
 }
 
-/// A number that no kind has: this crate's own error, as the guard hosts have theirs.
+/// A number that no kind has. The guard hosts have a type like it: one for both crates would have to stand in a third.
 #[derive(Clone, Copy, Debug, PartialEq, Eq)]
 pub struct UnknownKind(pub u16);
 

@@ -2,7 +2,7 @@
 use Rattle.std.specs.Prelude.{ℕ, ◌-◌, ◌<◌, cond, List, length, Some, None, Option, ◌==◌, ◌≢◌, slice_index}
 use Rattle.std.specs.List.{slice_get}
 
--- no value stands at two places
+-- no value stands at two places (said of places, so an own word)
 abbrev pub NoneTwice : Option (List ℕ) → Type 0
 NoneTwice None = Unit {0}
 NoneTwice (Some xs) = (i j : ℕ) → i < j → j < length xs → slice_index xs i ≢ slice_index xs j

@@ -6,7 +6,7 @@ use crate::state_list::StateList;
 use notation::node::Node;
 use std::fmt;
 
-/// The line of a node: `node 8: choice, left 6, right 7`.
+/// The line of a node: `node 8: choice, left 6, right 7`. It is a public text of its own name, as the line of an arrow is.
 #[derive(Clone, Copy)]
 pub struct NodeLine<'a> {
     pub number: usize,
