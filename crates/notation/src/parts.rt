@@ -1,8 +1,8 @@
-ghost use Rattle.std.specs.Prelude.{◌≡◌, ◌≤◌};
-ghost use Rattle.notation.specs.Parts.{is_absent, children_of, binds, states_of, binders_for};
+ghost use Rattle.std.specs.Prelude.{◌≡◌, ◌≤◌, slice_index_or};
+ghost use Rattle.notation.specs.Parts.{blank_state, is_absent, children_of, binds, states_of, binders_for};
 
 use crate::arrow::Argument;
-use crate::node::Node;
+use crate::node::{Mark, Node, State, States};
 use crate::table::Table;
 
 impl Argument {
@@ -21,6 +21,23 @@ impl Argument {
             Argument::Outer => 1,
             Argument::Inner => 2,
         }
+    }
+}
+
+impl States {
+    /// The state of a number; one that is not there has no mark and no child.
+    pub fn state(&self, number: u16) -> State
+        ensures tells_the_state { result ≡ slice_index_or self.now.table.items number blank_state }
+    {
+        let blank = State {
+            mark: Mark::Unmarked,
+            child: None,
+        };
+        self.table
+            .as_slice()
+            .get(usize::from(number))
+            .copied()
+            .unwrap_or(blank)
     }
 }
 

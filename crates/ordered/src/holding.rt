@@ -35,8 +35,16 @@ impl<'a, T: Rank + Copy> Ordered<'a, T> {
         self.used
     }
 
-    fn as_slice(&self) -> &[T]
-        ensures { result.now ≡ held self.now }
+    /// How many it has room for.
+    pub fn room(&self) -> usize
+        ensures counts_the_places { result ≡ room self.now }
+    {
+        self.places.len()
+    }
+
+    /// The elements in order.
+    pub fn as_slice(&self) -> &[T]
+        ensures tells_what_is_held { result.now ≡ held self.now }
     {
         &self.places[0..self.used]
     }

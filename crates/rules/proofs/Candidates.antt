@@ -94,7 +94,7 @@ event-parts e f = by-count (nat_le 1 e.count) (nat_le 2 e.count) refl refl
         let n : e.count ≡ 2 = omega (arith, f.count) in
         λ i. record { label = e.label; count = n i; first = e.first; second = e.second }
 
-carried-event : (v : Variables) (a : NumberedArrow) (e : Event) → InForm e → Carries a.arrow e v → e ≡ event_of v a
+pub carried-event : (v : Variables) (a : NumberedArrow) (e : Event) → InForm e → Carries a.arrow e v → e ≡ event_of v a
 carried-event v a e f c = event-parts e f ∙ λ i. event_with (sym c.label i) (sym c.first i) (sym c.second i)
 
 in-below : (f : ℕ → List Event) (e : Event) (n q : ℕ) → q < n → Memᴰ e (f q) → Memᴰ e (in_each f n)

@@ -66,7 +66,7 @@ child-same : (s t : ℕ → Tree) (i : ℕ) → ((j : ℕ) → j < i → s j ≡
 child-same s t i h None b = refl
 child-same s t i h (Some j) b = h j (b j refl)
 
-state-child : (s : States) (q j : ℕ) → (state_of s q).child ≡ Some j → Memᴰ j (children_of (Automaton s))
+pub state-child : (s : States) (q j : ℕ) → (state_of s q).child ≡ Some j → Memᴰ j (children_of (Automaton s))
 state-child s q j e = child-among s.table.items q j e
 
 node-same : (values : Values) (ws : List NumberedArrow) (s t : ℕ → Tree) (i : ℕ) → ((j : ℕ) → j < i → s j ≡ t j) → (n : Node) → Below i (children_of n) → node_tree values ws s n ≡ node_tree values ws t n
