@@ -1,0 +1,6 @@
+pub mod Frames
+pub mod Framed
+pub mod Operators
+pub mod Anys
+pub mod Adds
+pub mod Arms

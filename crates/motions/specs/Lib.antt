@@ -1,0 +1,4 @@
+pub mod Framing
+pub mod Ways
+pub mod Collecting
+pub mod Laws
