@@ -1,0 +1,10 @@
+pub mod Told
+pub mod Parents
+pub mod Placing
+pub mod Downward
+pub mod Opens
+pub mod Widths
+pub mod Begins
+pub mod Finishes
+pub mod Short
+pub mod Carried
