@@ -1,0 +1,6 @@
+//! What the guards of a diagram answer to an event: a host is asked beforehand, so that the search need not know it.
+#![tactic(auto)]
+
+pub mod answers;
+pub mod asking;
+pub mod replying;
