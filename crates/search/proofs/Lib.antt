@@ -1,0 +1,9 @@
+pub mod Leads
+pub mod Chosen
+pub mod Automata
+pub mod Fires
+pub mod Collects
+pub mod Steps
+pub mod Sides
+pub mod Instances
+pub mod Rounds

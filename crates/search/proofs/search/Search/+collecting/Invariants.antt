@@ -1,0 +1,92 @@
+-- A part is moved by those of its node's children, which are below it; instances one by one.
+use Rattle.std.proofs.Common.{◌+◌, ◌-◌, ◌*◌, ◌≤◌, take}
+use mathlib.Core.List.{Memᴰ}
+use Rattle.ordered.specs.Held.{held, room}
+use Rattle.ordered.specs.Order.{Rising}
+use Rattle.row.specs.Rows.{row_rank}
+use Rattle.row.specs.declared.row.Row.{Row}
+use Rattle.rules.specs.Trees.{Guards}
+use Rattle.motions.specs.Ways.{Any}
+use Rattle.motions.specs.Collecting.{Gained, Stays, FromEach}
+use Rattle.answers.specs.Answering.{Agrees}
+use Rattle.search.specs.Searching.{Reached, InstancesReached, all_move}
+use Rattle.search.proofs.search.Search.+collecting.Given as goal
+
+abbrev pub decreases-each : goal.decreases-each
+decreases-each l = 60 * l.part.node + 51
+
+abbrev pub decreases-can_move : goal.decreases-can_move
+decreases-can_move l = 60 * l.part.node + 51
+
+abbrev pub decreases-collect : goal.decreases-collect
+decreases-collect l = 60 * l.part.node + 50
+
+abbrev pub decreases-automaton : goal.decreases-automaton
+decreases-automaton l = 60 * l.part.node + 49
+
+abbrev pub decreases-sequence : goal.decreases-sequence
+decreases-sequence l = 60 * l.part.node + 49
+
+abbrev pub decreases-closure : goal.decreases-closure
+decreases-closure l = 60 * l.part.node + 49
+
+abbrev pub decreases-guard : goal.decreases-guard
+decreases-guard l = 60 * l.part.node + 49
+
+abbrev pub decreases-choice : goal.decreases-choice
+decreases-choice l = 60 * l.part.node + 49
+
+abbrev pub decreases-synchronisation : goal.decreases-synchronisation
+decreases-synchronisation l = 60 * l.part.node + 49
+
+abbrev pub decreases-either_side : goal.decreases-either_side
+decreases-either_side l = 60 * l.part.node + 48
+
+abbrev pub decreases-both_sides : goal.decreases-both_sides
+decreases-both_sides l = 60 * l.part.node + 48
+
+abbrev pub decreases-quantified_choice : goal.decreases-quantified_choice
+decreases-quantified_choice l = 60 * l.part.node + 49
+
+abbrev pub decreases-quantified_synchronisation : goal.decreases-quantified_synchronisation
+decreases-quantified_synchronisation l = 60 * l.part.node + 49
+
+abbrev pub decreases-chosen_resumes : goal.decreases-chosen_resumes
+decreases-chosen_resumes l = 60 * l.part.node + 1
+
+abbrev pub decreases-some_start : goal.decreases-some_start
+decreases-some_start l = 60 * l.part.node + 1 + (17 - l.k)
+
+abbrev pub decreases-one_instance : goal.decreases-one_instance
+decreases-one_instance l = 60 * l.part.node + 1 + (17 - l.k)
+
+abbrev pub decreases-all_can : goal.decreases-all_can
+decreases-all_can l = 60 * l.part.node + 1 + (17 - l.k)
+
+abbrev pub decreases-all_instances : goal.decreases-all_instances
+decreases-all_instances l = 60 * l.part.node + 1 + 2 * (17 - l.k)
+
+abbrev pub decreases-all_instances_of_each : goal.decreases-all_instances_of_each
+decreases-all_instances_of_each l = 60 * l.part.node + 2 + 2 * (17 - l.k)
+
+abbrev pub decreases-start : goal.decreases-start
+decreases-start l = 60 * l.part.node
+
+abbrev pub decreases-resume : goal.decreases-resume
+decreases-resume l = 60 * l.part.node
+
+-- what the rows so far have added, if the table agrees with the guards
+abbrev pub invariant-each-loop-row : goal.invariant-each-loop-row
+invariant-each-loop-row l =
+    Stays l.initial.out l.out
+    × ((g : Guards) → Agrees l.self.diagram.now l.self.answers.now g → room l.initial.out ≤ 128
+    → Rising row_rank (held l.initial.out)
+    → Gained (FromEach (take l.row-index l.row-items) (λ x y. Reached l.self.diagram.now l.self.answers.now g l.part x y)) (held l.initial.out) (held l.out))
+
+abbrev pub invariant-all_instances_of_each-loop-row : goal.invariant-all_instances_of_each-loop-row
+invariant-all_instances_of_each-loop-row l =
+    Stays l.initial.out l.out
+    × ((g : Guards) → Agrees l.self.diagram.now l.self.answers.now g → room l.initial.out ≤ 128
+    → ((x : Row) → Memᴰ x (held l.rows) → Any (all_move l.self.diagram.now l.self.answers.now g l.over l.body l.k x))
+    → Rising row_rank (held l.initial.out)
+    → Gained (FromEach (take l.row-index l.row-items) (λ x y. InstancesReached l.self.diagram.now l.over l.body l.k x (all_move l.self.diagram.now l.self.answers.now g l.over l.body l.k x) y)) (held l.initial.out) (held l.out))

@@ -1,0 +1,562 @@
+ghost use Rattle.std.specs.Prelude.{◌≡◌, ℕ, ◌+◌, ◌<◌, ◌≤◌, Some};
+ghost use Rattle.std.specs.List.{slice_get};
+ghost use mathlib.Core.List.{Memᴰ};
+ghost use Rattle.notation.specs.declared.node.Node.TheVariants.{Automaton, Guard};
+ghost use Rattle.ordered.specs.Held.{held};
+ghost use Rattle.row.specs.declared.row.Row.{Row};
+ghost use Rattle.rules.specs.Trees.{sequence, closure, guarded, choice, synchronisation, quantified_choice, quantified_synchronisation};
+ghost use Rattle.rules.specs.Growing.{labels_of};
+ghost use Rattle.motions.specs.Ways.{Any};
+ghost use Rattle.motions.specs.Collecting.{Stays};
+ghost use Rattle.diagram.specs.Valued.{values_of};
+ghost use Rattle.diagram.specs.Parts.{part_tree, part_width, IsPartOf, InPlace};
+ghost use Rattle.search.specs.Searching.{Behind, Child, Beside, Bound, InstancesInside, Collects, CollectsIf, DecidesAny, successors_of, all_ways};
+ghost use Rattle.search.specs.Searching.{RowsOfPart, RowsOfEach, RowsOfStart, RowsOfResume, RowsOfEitherSide, RowsOfBothSides, RowsOfSomeStart, RowsOfChosen, RowsOfOneInstance, RowsOfAllInstances, RowsOfAllInstancesOfEach};
+
+use crate::firing::put;
+use crate::leading::in_set;
+use crate::overflow::Overflow;
+use crate::search::Search;
+use diagram::part::Part;
+use notation::arrow::Arrow;
+use notation::node::{Labels, Node, States};
+use ordered::list::Ordered;
+use row::row::Row;
+
+impl Search<'_> {
+    /// If it is allowed to, a child moves from its initial state, behind a tag.
+    #[cycle(collecting)]
+    fn start(
+        &self,
+        allowed: bool,
+        tag: u16,
+        part: Part,
+        child: Part,
+        row: &Row,
+        out: &mut Ordered<Row>,
+    ) -> Result<(), Overflow>
+        requires is_in_place { InPlace self.now.diagram.now part }
+        requires is_behind { Behind self.now.diagram.now part child }
+        ensures stays { Stays out.old out.new }
+        ensures adds { Collects self.now (RowsOfStart self.now allowed tag part child row.now) out.old out.new result }
+    {
+        if !allowed {
+            return Ok(());
+        }
+        let size = self.diagram.width(usize::from(part.node));
+        let entered = self
+            .diagram
+            .enter(tag, Some(child.node), *row, part.at, size);
+        self.collect(child, &entered, out)
+    }
+
+    /// If it is allowed to, a child moves from where it is, behind a tag.
+    #[cycle(collecting)]
+    fn resume(
+        &self,
+        allowed: bool,
+        tag: u16,
+        part: Part,
+        child: Part,
+        row: &Row,
+        out: &mut Ordered<Row>,
+    ) -> Result<(), Overflow>
+        requires is_in_place { InPlace self.now.diagram.now part }
+        requires is_behind { Behind self.now.diagram.now part child }
+        ensures stays { Stays out.old out.new }
+        ensures adds { Collects self.now (RowsOfResume self.now allowed tag part child row.now) out.old out.new result }
+    {
+        if !allowed {
+            return Ok(());
+        }
+        let size = self.diagram.width(usize::from(part.node));
+        let stayed = self
+            .diagram
+            .stay(tag, Some(child.node), *row, part.at, size);
+        self.collect(child, &stayed, out)
+    }
+
+    /// aut-1, aut-6
+    #[cycle(collecting)]
+    fn automaton(
+        &self,
+        part: Part,
+        states: &States,
+        row: &Row,
+        out: &mut Ordered<Row>,
+    ) -> Result<(), Overflow>
+        requires is_in_place { InPlace self.now.diagram.now part }
+        requires is_this_node { IsPartOf self.now.diagram.now (Automaton states.now) part }
+        ensures stays { Stays out.old out.new }
+        ensures adds { Collects self.now (RowsOfPart self.now part row.now) out.old out.new result }
+    {
+        self.fire(part, states, row, out)?;
+        let state = row.cells[part.at];
+        match states.state(state).child {
+            None => Ok(()),
+            Some(child) => self.resume(true, state, part, part.of(child, part.at + 1), row, out),
+        }
+    }
+
+    /// seq-1, seq-2, seq-3
+    #[cycle(collecting)]
+    fn sequence(
+        &self,
+        part: Part,
+        first: Part,
+        second: Part,
+        row: &Row,
+        out: &mut Ordered<Row>,
+    ) -> Result<(), Overflow>
+        requires is_in_place { InPlace self.now.diagram.now part }
+        requires is_sequence { part_tree self.now.diagram.now part ≡ sequence (part_tree self.now.diagram.now first) (part_tree self.now.diagram.now second) }
+        requires first_is_behind { Child self.now.diagram.now part first }
+        requires second_is_behind { Child self.now.diagram.now part second }
+        ensures stays { Stays out.old out.new }
+        ensures adds { Collects self.now (RowsOfPart self.now part row.now) out.old out.new result }
+    {
+        let tag = row.cells[part.at];
+        let done = tag == 0
+            && self
+                .diagram
+                .finished(usize::from(first.node), row, first.at);
+        self.resume(tag == 0, 0, part, first, row, out)?;
+        self.start(done, 1, part, second, row, out)?;
+        self.resume(tag == 1, 1, part, second, row, out)
+    }
+
+    /// clo-1, clo-2
+    #[cycle(collecting)]
+    fn closure(
+        &self,
+        part: Part,
+        body: Part,
+        row: &Row,
+        out: &mut Ordered<Row>,
+    ) -> Result<(), Overflow>
+        requires is_in_place { InPlace self.now.diagram.now part }
+        requires is_closure { part_tree self.now.diagram.now part ≡ closure (part_tree self.now.diagram.now body) }
+        requires body_is_behind { Child self.now.diagram.now part body }
+        ensures stays { Stays out.old out.new }
+        ensures adds { Collects self.now (RowsOfPart self.now part row.now) out.old out.new result }
+    {
+        let done = self.diagram.finished(usize::from(part.node), row, part.at);
+        self.start(done, 1, part, body, row, out)?;
+        self.resume(row.cells[part.at] == 1, 1, part, body, row, out)
+    }
+
+    /// gua-1, gua-2
+    #[cycle(collecting)]
+    fn guard(
+        &self,
+        number: u16,
+        part: Part,
+        body: Part,
+        row: &Row,
+        out: &mut Ordered<Row>,
+    ) -> Result<(), Overflow>
+        requires is_in_place { InPlace self.now.diagram.now part }
+        requires is_this_node { IsPartOf self.now.diagram.now (Guard number body.node) part }
+        requires is_guarded { part_tree self.now.diagram.now part ≡ guarded number (part_tree self.now.diagram.now body) }
+        requires body_is_behind { Child self.now.diagram.now part body }
+        ensures stays { Stays out.old out.new }
+        ensures adds { Collects self.now (RowsOfPart self.now part row.now) out.old out.new result }
+    {
+        let tag = row.cells[part.at];
+        let holds = tag == 0 && self.answers.of_node(usize::from(part.node), part.scope);
+        self.start(holds, 1, part, body, row, out)?;
+        self.resume(tag == 1, 1, part, body, row, out)
+    }
+
+    /// cho-1, cho-2, cho-3, cho-4
+    #[cycle(collecting)]
+    fn choice(
+        &self,
+        part: Part,
+        left: Part,
+        right: Part,
+        row: &Row,
+        out: &mut Ordered<Row>,
+    ) -> Result<(), Overflow>
+        requires is_in_place { InPlace self.now.diagram.now part }
+        requires is_choice { part_tree self.now.diagram.now part ≡ choice (part_tree self.now.diagram.now left) (part_tree self.now.diagram.now right) }
+        requires left_is_behind { Child self.now.diagram.now part left }
+        requires right_is_behind { Child self.now.diagram.now part right }
+        ensures stays { Stays out.old out.new }
+        ensures adds { Collects self.now (RowsOfPart self.now part row.now) out.old out.new result }
+    {
+        let tag = row.cells[part.at];
+        self.start(tag == 0, 1, part, left, row, out)?;
+        self.start(tag == 0, 2, part, right, row, out)?;
+        self.resume(tag == 1, 1, part, left, row, out)?;
+        self.resume(tag == 2, 2, part, right, row, out)
+    }
+
+    /// syn-1, syn-2, where the label is not in the set
+    #[cycle(collecting)]
+    fn either_side(
+        &self,
+        part: Part,
+        left: Part,
+        right: Part,
+        row: &Row,
+        out: &mut Ordered<Row>,
+    ) -> Result<(), Overflow>
+        requires are_beside { Beside self.now.diagram.now part left right }
+        ensures stays { Stays out.old out.new }
+        ensures adds { Collects self.now (RowsOfEitherSide self.now left right row.now) out.old out.new result }
+    {
+        self.collect(left, row, out)?;
+        self.collect(right, row, out)
+    }
+
+    /// syn-3, where the label is in the set. It is asked first whether both sides can move, so that what one side gives is never in vain.
+    #[cycle(collecting)]
+    fn both_sides(
+        &self,
+        part: Part,
+        left: Part,
+        right: Part,
+        row: &Row,
+        out: &mut Ordered<Row>,
+    ) -> Result<(), Overflow>
+        requires are_beside { Beside self.now.diagram.now part left right }
+        requires are_inside { right.at + part_width self.now.diagram.now right ≤ 48 }
+        ensures stays { Stays out.old out.new }
+        ensures adds { Collects self.now (RowsOfBothSides self.now part left right row.now) out.old out.new result }
+    {
+        if !self.can_move(left, row) || !self.can_move(right, row) {
+            return Ok(());
+        }
+        if out.room() == 0 {
+            return Err(Overflow);
+        }
+        let mut places = [Row { cells: [0; 48] }; 128];
+        let mut moved = Ordered::over(&mut places);
+        self.collect(left, row, &mut moved)?;
+        self.each(right, &moved, out)
+    }
+
+    /// syn-1, syn-2, syn-3
+    #[cycle(collecting)]
+    fn synchronisation(
+        &self,
+        part: Part,
+        left: Part,
+        right: Part,
+        labels: &Labels,
+        row: &Row,
+        out: &mut Ordered<Row>,
+    ) -> Result<(), Overflow>
+        requires is_in_place { InPlace self.now.diagram.now part }
+        requires are_beside { Beside self.now.diagram.now part left right }
+        requires is_synchronisation { part_tree self.now.diagram.now part ≡ synchronisation (labels_of labels.now) (part_tree self.now.diagram.now left) (part_tree self.now.diagram.now right) }
+        ensures stays { Stays out.old out.new }
+        ensures adds { Collects self.now (RowsOfPart self.now part row.now) out.old out.new result }
+    {
+        if in_set(self.answers.event().label, labels) {
+            self.both_sides(part, left, right, row, out)
+        } else {
+            self.either_side(part, left, right, row, out)
+        }
+    }
+
+    /// The same part of each of some rows.
+    #[cycle(collecting)]
+    pub fn each(
+        &self,
+        part: Part,
+        rows: &Ordered<Row>,
+        out: &mut Ordered<Row>,
+    ) -> Result<(), Overflow>
+        requires is_in_place { InPlace self.now.diagram.now part }
+        ensures stays { Stays out.old out.new }
+        ensures adds_the_successors_of_each { Collects self.now (RowsOfEach self.now part (held rows.now)) out.old out.new result }
+    {
+        for row in rows.as_slice() {
+            self.collect(part, row, out)?;
+        }
+        Ok(())
+    }
+
+    /// qch-1: the body moves from its initial state under some value from a position on, counted from 0.
+    #[cycle(collecting)]
+    fn some_start(
+        &self,
+        part: Part,
+        over: u16,
+        body: Part,
+        k: usize,
+        row: &Row,
+        out: &mut Ordered<Row>,
+    ) -> Result<(), Overflow>
+        requires is_in_place { InPlace self.now.diagram.now part }
+        requires is_bound { Bound self.now.diagram.now part over body }
+        requires is_behind { body.at ≡ part.at + 1 }
+        requires is_narrower { (k x : ℕ) → slice_get (values_of self.now.diagram.now.plan.values over) k ≡ Some x → part_width self.now.diagram.now body < part_width self.now.diagram.now part }
+        ensures stays { Stays out.old out.new }
+        ensures adds { Collects self.now (RowsOfSomeStart self.now part over body k row.now) out.old out.new result }
+    {
+        match self.diagram.values(over).get(k) {
+            None => Ok(()),
+            Some(x) => {
+                self.start(true, k as u16 + 1, part, body.bound(k + 1, *x), row, out)?;
+                self.some_start(part, over, body, k + 1, row, out)
+            }
+        }
+    }
+
+    /// qch-2: the body moves under the chosen value.
+    #[cycle(collecting)]
+    fn chosen_resumes(
+        &self,
+        part: Part,
+        over: u16,
+        body: Part,
+        row: &Row,
+        out: &mut Ordered<Row>,
+    ) -> Result<(), Overflow>
+        requires is_in_place { InPlace self.now.diagram.now part }
+        requires is_bound { Bound self.now.diagram.now part over body }
+        requires is_behind { body.at ≡ part.at + 1 }
+        requires is_narrower { (k x : ℕ) → slice_get (values_of self.now.diagram.now.plan.values over) k ≡ Some x → part_width self.now.diagram.now body < part_width self.now.diagram.now part }
+        requires has_a_tag { 1 ≤ part_width self.now.diagram.now part }
+        ensures stays { Stays out.old out.new }
+        ensures adds { Collects self.now (RowsOfChosen self.now part over body row.now) out.old out.new result }
+    {
+        let tag = row.cells[part.at];
+        let Some(index) = usize::from(tag).checked_sub(1) else {
+            return Ok(());
+        };
+        match self.diagram.values(over).get(index) {
+            None => Ok(()),
+            Some(x) => self.resume(true, tag, part, body.bound(index + 1, *x), row, out),
+        }
+    }
+
+    /// qch-1, qch-2
+    #[cycle(collecting)]
+    fn quantified_choice(
+        &self,
+        part: Part,
+        over: u16,
+        body: Part,
+        row: &Row,
+        out: &mut Ordered<Row>,
+    ) -> Result<(), Overflow>
+        requires is_in_place { InPlace self.now.diagram.now part }
+        requires is_bound { Bound self.now.diagram.now part over body }
+        requires is_behind { body.at ≡ part.at + 1 }
+        requires is_quantified_choice { part_tree self.now.diagram.now part ≡ quantified_choice (values_of self.now.diagram.now.plan.values over) (part_tree self.now.diagram.now body) }
+        ensures stays { Stays out.old out.new }
+        ensures adds { Collects self.now (RowsOfPart self.now part row.now) out.old out.new result }
+    {
+        if row.cells[part.at] == 0 {
+            self.some_start(part, over, body, 0, row, out)
+        } else {
+            self.chosen_resumes(part, over, body, row, out)
+        }
+    }
+
+    /// qsy-1: one of the instances from a position on moves, counted from 0.
+    #[cycle(collecting)]
+    fn one_instance(
+        &self,
+        part: Part,
+        over: u16,
+        body: Part,
+        k: usize,
+        row: &Row,
+        out: &mut Ordered<Row>,
+    ) -> Result<(), Overflow>
+        requires is_bound { Bound self.now.diagram.now part over body }
+        requires are_inside { InstancesInside self.now.diagram.now over body k }
+        ensures stays { Stays out.old out.new }
+        ensures adds { Collects self.now (RowsOfOneInstance self.now over body k row.now) out.old out.new result }
+    {
+        match self.diagram.values(over).get(k) {
+            None => Ok(()),
+            Some(x) => {
+                self.collect(body.bound(k + 1, *x), row, out)?;
+                let next = body.of(
+                    body.node,
+                    body.at + self.diagram.width(usize::from(body.node)),
+                );
+                self.one_instance(part, over, next, k + 1, row, out)
+            }
+        }
+    }
+
+    /// Whether each of the instances from a position on can move.
+    #[cycle(collecting)]
+    fn all_can(&self, part: Part, over: u16, body: Part, k: usize, row: &Row) -> bool
+        requires is_bound { Bound self.now.diagram.now part over body }
+        requires are_inside { InstancesInside self.now.diagram.now over body k }
+        ensures { DecidesAny self.now (all_ways self.now over body k row.now) result }
+    {
+        match self.diagram.values(over).get(k) {
+            None => true,
+            Some(x) => {
+                let next = body.of(
+                    body.node,
+                    body.at + self.diagram.width(usize::from(body.node)),
+                );
+                self.can_move(body.bound(k + 1, *x), row)
+                    && self.all_can(part, over, next, k + 1, row)
+            }
+        }
+    }
+
+    /// qsy-2: all of the instances from a position on move, which all can.
+    #[cycle(collecting)]
+    fn all_instances(
+        &self,
+        part: Part,
+        over: u16,
+        body: Part,
+        k: usize,
+        row: &Row,
+        out: &mut Ordered<Row>,
+    ) -> Result<(), Overflow>
+        requires is_bound { Bound self.now.diagram.now part over body }
+        requires are_inside { InstancesInside self.now.diagram.now over body k }
+        ensures stays { Stays out.old out.new }
+        ensures adds { CollectsIf self.now (λ g. Any (all_ways self.now over body k row.now g)) (RowsOfAllInstances self.now over body k row.now) out.old out.new result }
+    {
+        match self.diagram.values(over).get(k) {
+            None => put(*row, out),
+            Some(x) => {
+                let mut places = [Row { cells: [0; 48] }; 128];
+                let mut moved = Ordered::over(&mut places);
+                self.collect(body.bound(k + 1, *x), row, &mut moved)?;
+                let next = body.of(
+                    body.node,
+                    body.at + self.diagram.width(usize::from(body.node)),
+                );
+                self.all_instances_of_each(part, over, next, k + 1, &moved, out)
+            }
+        }
+    }
+
+    /// The same of each of some rows.
+    #[cycle(collecting)]
+    fn all_instances_of_each(
+        &self,
+        part: Part,
+        over: u16,
+        body: Part,
+        k: usize,
+        rows: &Ordered<Row>,
+        out: &mut Ordered<Row>,
+    ) -> Result<(), Overflow>
+        requires is_bound { Bound self.now.diagram.now part over body }
+        requires are_inside { InstancesInside self.now.diagram.now over body k }
+        ensures stays { Stays out.old out.new }
+        ensures adds { CollectsIf self.now (λ g. (x : Row) → Memᴰ x (held rows.now) → Any (all_ways self.now over body k x g)) (RowsOfAllInstancesOfEach self.now over body k (held rows.now)) out.old out.new result }
+    {
+        for row in rows.as_slice() {
+            self.all_instances(part, over, body, k, row, out)?;
+        }
+        Ok(())
+    }
+
+    /// qsy-1, qsy-2. It is asked first whether every instance can move.
+    #[cycle(collecting)]
+    fn quantified_synchronisation(
+        &self,
+        part: Part,
+        over: u16,
+        body: Part,
+        labels: &Labels,
+        row: &Row,
+        out: &mut Ordered<Row>,
+    ) -> Result<(), Overflow>
+        requires is_in_place { InPlace self.now.diagram.now part }
+        requires is_bound { Bound self.now.diagram.now part over body }
+        requires is_first { body.at ≡ part.at }
+        requires is_quantified_synchronisation { part_tree self.now.diagram.now part ≡ quantified_synchronisation (values_of self.now.diagram.now.plan.values over) (labels_of labels.now) (part_tree self.now.diagram.now body) }
+        ensures stays { Stays out.old out.new }
+        ensures adds { Collects self.now (RowsOfPart self.now part row.now) out.old out.new result }
+    {
+        if !in_set(self.answers.event().label, labels) {
+            return self.one_instance(part, over, body, 0, row, out);
+        }
+        if self.diagram.values(over).is_empty() || !self.all_can(part, over, body, 0, row) {
+            return Ok(());
+        }
+        if out.room() == 0 {
+            return Err(Overflow);
+        }
+        self.all_instances(part, over, body, 0, row, out)
+    }
+
+    /// Puts the row with a part replaced by each of its successors into a list.
+    #[cycle(collecting)]
+    pub fn collect(&self, part: Part, row: &Row, out: &mut Ordered<Row>) -> Result<(), Overflow>
+        requires is_in_place { InPlace self.now.diagram.now part }
+        ensures stays { Stays out.old out.new }
+        ensures adds_the_successors { Collects self.now (RowsOfPart self.now part row.now) out.old out.new result }
+    {
+        let behind = part.at + 1;
+        match self.diagram.node(usize::from(part.node)) {
+            Node::Automaton { states } => self.automaton(part, &states, row, out),
+            Node::Sequence { first, second } => {
+                self.sequence(
+                    part,
+                    part.of(first, behind),
+                    part.of(second, behind),
+                    row,
+                    out,
+                )
+            }
+            Node::Closure { body } => self.closure(part, part.of(body, behind), row, out),
+            Node::Guard { guard, body } => self.guard(guard, part, part.of(body, behind), row, out),
+            Node::Choice { left, right } => {
+                self.choice(
+                    part,
+                    part.of(left, behind),
+                    part.of(right, behind),
+                    row,
+                    out,
+                )
+            }
+            Node::Synchronisation {
+                left,
+                right,
+                labels,
+            } => {
+                let left = part.of(left, part.at);
+                let right = part.of(right, part.at + self.diagram.width(usize::from(left.node)));
+                self.synchronisation(part, left, right, &labels, row, out)
+            }
+            Node::QuantifiedChoice { over, body } => self.quantified_choice(
+                part,
+                over,
+                part.of(body, behind),
+                row,
+                out,
+            ),
+            Node::QuantifiedSynchronisation { over, body, labels } => {
+                self.quantified_synchronisation(
+                    part,
+                    over,
+                    part.of(body, part.at),
+                    &labels,
+                    row,
+                    out,
+                )
+            }
+        }
+    }
+
+    /// Whether the event moves a part of a row: then its successors have no room in a list without places.
+    #[cycle(collecting)]
+    pub fn can_move(&self, part: Part, row: &Row) -> bool
+        requires is_in_place { InPlace self.now.diagram.now part }
+        ensures decides_whether_there_is_a_successor { DecidesAny self.now (successors_of self.now part row.now) result }
+    {
+        let mut none = [];
+        self.collect(part, row, &mut Ordered::over(&mut none))
+            .is_err()
+    }
+}
