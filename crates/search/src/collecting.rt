@@ -76,7 +76,7 @@ impl Search<'_> {
         self.collect(child, &stayed, out)
     }
 
-    /// aut-1, aut-6
+    /// An automaton: its arrows lead out of its state (aut-1), or the state's child moves (aut-6).
     #[cycle(collecting)]
     fn automaton(
         &self,
@@ -98,7 +98,7 @@ impl Search<'_> {
         }
     }
 
-    /// seq-1, seq-2, seq-3
+    /// A sequence: its first part moves (seq-1), hands over to the second when it is finished (seq-2), or the second moves (seq-3).
     #[cycle(collecting)]
     fn sequence(
         &self,
@@ -125,7 +125,7 @@ impl Search<'_> {
         self.resume(tag == 1, 1, part, second, row, out)
     }
 
-    /// clo-1, clo-2
+    /// A closure: its body starts, when the closure is finished (clo-1), or moves on (clo-2).
     #[cycle(collecting)]
     fn closure(
         &self,
@@ -145,7 +145,7 @@ impl Search<'_> {
         self.resume(row.cells[part.at] == 1, 1, part, body, row, out)
     }
 
-    /// gua-1, gua-2
+    /// A guard: its body starts, if the guard holds (gua-1), or moves on without being asked (gua-2).
     #[cycle(collecting)]
     fn guard(
         &self,
@@ -168,7 +168,7 @@ impl Search<'_> {
         self.resume(tag == 1, 1, part, body, row, out)
     }
 
-    /// cho-1, cho-2, cho-3, cho-4
+    /// A choice: either side starts (cho-1, cho-2), or the chosen one moves on (cho-3, cho-4).
     #[cycle(collecting)]
     fn choice(
         &self,
@@ -192,7 +192,7 @@ impl Search<'_> {
         self.resume(tag == 2, 2, part, right, row, out)
     }
 
-    /// syn-1, syn-2, where the label is not in the set
+    /// One side or the other moves alone, where the label is not in the set (syn-1, syn-2).
     #[cycle(collecting)]
     fn either_side(
         &self,
@@ -210,7 +210,7 @@ impl Search<'_> {
         self.collect(right, row, out)
     }
 
-    /// syn-3, where the label is in the set. It is asked first whether both sides can move, so that what one side gives is never in vain.
+    /// Both sides move, where the label is in the set (syn-3). It is asked first whether they can, so that what one side gives is never in vain.
     #[cycle(collecting)]
     fn both_sides(
         &self,
@@ -228,16 +228,18 @@ impl Search<'_> {
         if !self.can_move(left, row) || !self.can_move(right, row) {
             return Ok(());
         }
+        // all can, so there is a row for which there is no place; nothing has to be collected to see that
         if out.room() == 0 {
             return Err(Overflow);
         }
+        // as many places as any list has that is collected into: if these overflow, so would they
         let mut places = [Row { cells: [0; 48] }; 128];
         let mut moved = Ordered::over(&mut places);
         self.collect(left, row, &mut moved)?;
         self.each(right, &moved, out)
     }
 
-    /// syn-1, syn-2, syn-3
+    /// A synchronisation.
     #[cycle(collecting)]
     fn synchronisation(
         &self,
@@ -279,7 +281,7 @@ impl Search<'_> {
         Ok(())
     }
 
-    /// qch-1: the body moves from its initial state under some value from a position on, counted from 0.
+    /// The body moves from its initial state under some value from a position on, counted from 0, and the value is chosen (qch-1).
     #[cycle(collecting)]
     fn some_start(
         &self,
@@ -306,7 +308,7 @@ impl Search<'_> {
         }
     }
 
-    /// qch-2: the body moves under the chosen value.
+    /// The body moves on under the chosen value (qch-2).
     #[cycle(collecting)]
     fn chosen_resumes(
         &self,
@@ -334,7 +336,7 @@ impl Search<'_> {
         }
     }
 
-    /// qch-1, qch-2
+    /// A quantified choice.
     #[cycle(collecting)]
     fn quantified_choice(
         &self,
@@ -358,7 +360,7 @@ impl Search<'_> {
         }
     }
 
-    /// qsy-1: one of the instances from a position on moves, counted from 0.
+    /// One of the instances from a position on, counted from 0, moves alone (qsy-1).
     #[cycle(collecting)]
     fn one_instance(
         &self,
@@ -407,7 +409,7 @@ impl Search<'_> {
         }
     }
 
-    /// qsy-2: all of the instances from a position on move, which all can.
+    /// All of the instances from a position on move, which all can (qsy-2).
     #[cycle(collecting)]
     fn all_instances(
         &self,
@@ -460,7 +462,7 @@ impl Search<'_> {
         Ok(())
     }
 
-    /// qsy-1, qsy-2. It is asked first whether every instance can move.
+    /// A quantified synchronisation. Where its label is in the set, it is asked first whether every instance can move.
     #[cycle(collecting)]
     fn quantified_synchronisation(
         &self,
@@ -484,6 +486,7 @@ impl Search<'_> {
         if self.diagram.values(over).is_empty() || !self.all_can(part, over, body, 0, row) {
             return Ok(());
         }
+        // all can, so there is a row for which there is no place; nothing has to be collected to see that
         if out.room() == 0 {
             return Err(Overflow);
         }

@@ -26,7 +26,7 @@ pub(crate) fn put(row: Row, out: &mut Ordered<Row>) -> Result<(), Overflow>
 }
 
 impl Search<'_> {
-    /// aut-1 of one arrow: if it leads out of the state, its target begins initially.
+    /// If an arrow leads out of the automaton's state, its target begins initially (aut-1).
     pub(crate) fn follow(
         &self,
         number: usize,
@@ -54,7 +54,7 @@ impl Search<'_> {
         )
     }
 
-    /// aut-1 of every arrow.
+    /// The same for every arrow of the file.
     pub(crate) fn fire(
         &self,
         part: Part,
