@@ -10,7 +10,8 @@ use mathlib.Core.List.Memᴰ
 use Rattle.ordered.specs.Held.{held, room}
 use Rattle.ordered.specs.Order.{Rising, spills, insert_ordered, StaysRising, HoldsNothingElse, HoldsExactly}
 use Rattle.ordered.specs.declared.list.Ordered.{Ordered}
-use Rattle.ordered.proofs.Laws.{rising-insert, in-insert, below-in}
+use Rattle.ordered.proofs.Laws.{rising-insert, in-insert}
+use Rattle.ordered.proofs.Alone.{shorter}
 use Rattle.row.specs.Rows.{row_rank}
 use Rattle.row.specs.Laws.{row_order}
 use Rattle.row.specs.declared.row.Row.{Row}
@@ -183,39 +184,9 @@ added-each l Y i x o m o' r e s a b =
     added-alike (EitherRow (FromEach (take i l) Y) (Y x)) (FromEach (take (i + 1) l) Y) o o' r (each-more l Y i x e)
     (added-then (FromEach (take i l) Y) (Y x) o m o' r s a b)
 
--- no row is below one that it is
-no-self : (x y : Row) → row_rank x y ≡ Less → x ≡ y → ⊥
-no-self x y h e =
-    let k : row_rank x x ≡ Less = subst (λ (z : Row). row_rank x z ≡ Less) (sym e) h in
-    true≢false (ap is_lt (sym k ∙ row_order.flip x x ∙ ap ordering_reverse k))
-
--- a rising list whose members are among those of another rising one is no longer
-shorter : (ys xs : List Row) → Rising row_rank xs → Rising row_rank ys → ((z : Row) → Memᴰ z xs → Memᴰ z ys) → length xs ≤ length ys
-shorter ys [] r s f = omega arith
-shorter [] (x ∷ xs) r s f = absurd (Memᴰ.not-nil (f x (Memᴰ.head refl)))
-shorter (y ∷ ys) (x ∷ xs) r s f =
-    ⊎_elim
-    (λ e. let h : length xs ≤ length ys = shorter ys xs r.1 s.1 (without e) in omega arith)
-    (λ j. let h : suc (length xs) ≤ length ys = shorter ys (x ∷ xs) r s.1 (all-above j) in omega arith)
-    (Memᴰ.cases_cons (f x (Memᴰ.head refl)))
-  where
-    without : x ≡ y → (z : Row) → Memᴰ z xs → Memᴰ z ys
-    without e z i = ⊎_elim (λ q. absurd (no-self x z (below-in row_rank x z xs r.0 i) (e ∙ sym q))) (λ k. k) (Memᴰ.cases_cons (f z (Memᴰ.tail i)))
-
-    above : Memᴰ x ys → (z : Row) → Memᴰ z (x ∷ xs) → row_rank y z ≡ Less
-    above j z i =
-        let lower : row_rank y x ≡ Less = below-in row_rank y x ys s.0 j in
-        ⊎_elim
-        (λ q. subst (λ (w : Row). row_rank y w ≡ Less) (sym q) lower)
-        (λ k. row_order.chain y x z lower (below-in row_rank x z xs r.0 k))
-        (Memᴰ.cases_cons i)
-
-    all-above : Memᴰ x ys → (z : Row) → Memᴰ z (x ∷ xs) → Memᴰ z ys
-    all-above j z i = ⊎_elim (λ q. absurd (no-self y z (above j z i) (sym q))) (λ k. k) (Memᴰ.cases_cons (f z i))
-
 -- a list that fits, and that there are too many, exclude each other
 pub fits-excludes-overflow : (X : Row → Type 0) (n : ℕ) (before after : List Row) → length after ≤ n → Gained X before after → Exceeds X n before → ⊥
 fits-excludes-overflow X n before after l a e =
-    let h : length e.rows ≤ length after = shorter after e.rows e.rises a.rises (λ z i. a.all z (e.only z i)) in
+    let h : length e.rows ≤ length after = shorter row_rank row_order after e.rows e.rises a.rises (λ z i. a.all z (e.only z i)) in
     let m : n < length e.rows = e.more in
     omega arith

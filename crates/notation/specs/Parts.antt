@@ -1,5 +1,5 @@
 -- What a node names: its children, and whether it binds a variable.
-use Rattle.std.specs.Prelude.{ℕ, Bool, true, false, List, [], ◌∷◌, ◌++◌, length, None}
+use Rattle.std.specs.Prelude.{ℕ, Bool, true, false, List, [], ◌∷◌, ◌++◌, length, Some, None, Option}
 use Rattle.std.specs.Option.{option_to_list}
 use Rattle.notation.specs.declared.node.State.{State}
 use Rattle.notation.specs.declared.node.Mark.TheVariants.{Unmarked}
@@ -36,6 +36,17 @@ children_of (Choice left right) = left ∷ right ∷ []
 children_of (Synchronisation left right labels) = left ∷ right ∷ []
 children_of (QuantifiedChoice over body) = body ∷ []
 children_of (QuantifiedSynchronisation over body labels) = body ∷ []
+
+-- the type that a binder binds a variable over; another node has none
+abbrev pub over_of : Node → Option ℕ
+over_of (Closure body) = None
+over_of (Automaton states) = None
+over_of (Sequence first second) = None
+over_of (Guard guard body) = None
+over_of (Choice left right) = None
+over_of (Synchronisation left right labels) = None
+over_of (QuantifiedChoice over body) = Some over
+over_of (QuantifiedSynchronisation over body labels) = Some over
 
 -- a binder gives a variable a value over its body
 abbrev pub binds : Node → Bool

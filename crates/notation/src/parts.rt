@@ -1,5 +1,5 @@
 ghost use Rattle.std.specs.Prelude.{◌≡◌, ◌≤◌, slice_index_or};
-ghost use Rattle.notation.specs.Parts.{blank_state, is_absent, children_of, binds, states_of, binders_for};
+ghost use Rattle.notation.specs.Parts.{blank_state, is_absent, children_of, binds, over_of, states_of, binders_for};
 
 use crate::arrow::Argument;
 use crate::node::{Mark, Node, State, States};
@@ -79,6 +79,18 @@ impl Node {
             self,
             Node::QuantifiedChoice { .. } | Node::QuantifiedSynchronisation { .. }
         )
+    }
+
+    /// The type that a binder binds a variable over, absent for any other node.
+    pub fn over(&self) -> Option<u16>
+        ensures tells_the_type { result ≡ over_of self.now }
+    {
+        match self {
+            Node::QuantifiedChoice { over, .. } | Node::QuantifiedSynchronisation { over, .. } => {
+                Some(*over)
+            }
+            _ => None,
+        }
     }
 
     /// The number of states of an automaton, 0 for any other node: no state is below 0, which is all that a reading asks, so no `Option`.

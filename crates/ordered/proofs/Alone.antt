@@ -1,5 +1,5 @@
--- Two rising lists with the same members are one list.
-use Rattle.std.proofs.Common.{◌≡◌, Ordering, Less, refl, sym, ap, ◌∙◌, subst, true≢false, List, [], ◌∷◌, ◌⊎◌, inl, inr, ⊎_elim}
+-- Two rising lists with the same members are one list; one with some of the members is no longer.
+use Rattle.std.proofs.Common.{◌≡◌, Ordering, Less, refl, sym, ap, ◌∙◌, subst, true≢false, suc, ◌≤◌, length, List, [], ◌∷◌, ◌⊎◌, inl, inr, ⊎_elim, arith}
 use mathlib.Core.List.{Memᴰ}
 use mathlib.Core.List.Memᴰ
 use Rattle.std.specs.Ordering.{ordering_reverse, is_lt}
@@ -33,3 +33,31 @@ module _ {X : Type 0} (c : X → X → Ordering) (o : Order c) where
 
       fro : x ≡ y → (z : X) → Memᴰ z ys → Memᴰ z xs
       fro e z i = ⊎_elim (λ w. absurd (not-below-itself y (subst (λ (u : X). c y u ≡ Less) (w ∙ e) (below-in c y z ys q.0 i)))) (λ k. k) (Memᴰ.cases_cons (g z (Memᴰ.tail i)))
+
+  -- one that is below another is not that one
+  not-one : (x y : X) → c x y ≡ Less → x ≡ y → ⊥
+  not-one x y h e = not-below-itself x (subst (λ (z : X). c x z ≡ Less) (sym e) h)
+
+  -- a rising list whose members are among those of another rising one is no longer
+  pub shorter : (ys xs : List X) → Rising c xs → Rising c ys → ((z : X) → Memᴰ z xs → Memᴰ z ys) → length xs ≤ length ys
+  shorter ys [] r s f = omega arith
+  shorter [] (x ∷ xs) r s f = absurd (Memᴰ.not-nil (f x (Memᴰ.head refl)))
+  shorter (y ∷ ys) (x ∷ xs) r s f =
+      ⊎_elim
+      (λ e. let h : length xs ≤ length ys = shorter ys xs r.1 s.1 (without e) in omega arith)
+      (λ j. let h : suc (length xs) ≤ length ys = shorter ys (x ∷ xs) r s.1 (all-above j) in omega arith)
+      (Memᴰ.cases_cons (f x (Memᴰ.head refl)))
+    where
+      without : x ≡ y → (z : X) → Memᴰ z xs → Memᴰ z ys
+      without e z i = ⊎_elim (λ q. absurd (not-one x z (below-in c x z xs r.0 i) (e ∙ sym q))) (λ k. k) (Memᴰ.cases_cons (f z (Memᴰ.tail i)))
+
+      above : Memᴰ x ys → (z : X) → Memᴰ z (x ∷ xs) → c y z ≡ Less
+      above j z i =
+          let lower : c y x ≡ Less = below-in c y x ys s.0 j in
+          ⊎_elim
+          (λ q. subst (λ (w : X). c y w ≡ Less) (sym q) lower)
+          (λ k. o.chain y x z lower (below-in c x z xs r.0 k))
+          (Memᴰ.cases_cons i)
+
+      all-above : Memᴰ x ys → (z : X) → Memᴰ z (x ∷ xs) → Memᴰ z ys
+      all-above j z i = ⊎_elim (λ q. absurd (not-one y z (above j z i) (sym q))) (λ k. k) (Memᴰ.cases_cons (f z i))

@@ -127,7 +127,7 @@ carried-listed (synchronisation labels a b) e v s f (inr c) = Memᴰ.append_righ
 carried-listed (quantified_choice xs b) e v s f c = in-flat (λ x. candidates b (bound x v)) c.1 (carried-listed b e (bound c.0 v) s f c.2)
 carried-listed (quantified_synchronisation xs labels b) e v s f c = in-flat (λ x. candidates b (bound x v)) c.1 (carried-listed b e (bound c.0 v) s f c.2)
 
-in-filter : (test : Event → Bool) (e : Event) (l : List Event) → test e ≡ true → Memᴰ e l → Memᴰ e (filter test l)
+pub in-filter : (test : Event → Bool) (e : Event) (l : List Event) → test e ≡ true → Memᴰ e l → Memᴰ e (filter test l)
 in-filter test e [] t m = m
 in-filter test e (d ∷ l) t m =
     ⊎_elim
@@ -139,7 +139,7 @@ in-filter test e (d ∷ l) t m =
     kept true i = Memᴰ.tail i
     kept false i = i
 
-out-filter : (test : Event → Bool) (e : Event) (l : List Event) → Memᴰ e (filter test l) → test e ≡ true
+pub out-filter : (test : Event → Bool) (e : Event) (l : List Event) → Memᴰ e (filter test l) → test e ≡ true
 out-filter test e [] m = absurd (Memᴰ.not-nil m)
 out-filter test e (d ∷ l) m = at (test d) refl (λ k. out-filter test e l k) m
   where
@@ -156,7 +156,7 @@ one-had [] h = absurd (true≢false (sym h))
 one-had (x ∷ l) h = (x, Memᴰ.head refl)
 
 module _ (t : Tree) (g : Guards) (e : Event) where
-  some-move : (l : List Cells) (r r' : Cells) → Memᴰ r l → Step t g e no_variables r r' → some_moves t g e l ≡ true
+  pub some-move : (l : List Cells) (r r' : Cells) → Memᴰ r l → Step t g e no_variables r r' → some_moves t g e l ≡ true
   some-move [] r r' m s = absurd (Memᴰ.not-nil m)
   some-move (x ∷ l) r r' m s =
       ⊎_elim
@@ -164,7 +164,7 @@ module _ (t : Tree) (g : Guards) (e : Event) where
       (λ k. or_right (has_one (moves t g e no_variables x)) (some_moves t g e l) (some-move l r r' k s))
       (Memᴰ.cases_cons m)
 
-  moved-some : (l : List Cells) → some_moves t g e l ≡ true → (r : Cells) × Memᴰ r l × ((r' : Cells) × Step t g e no_variables r r')
+  pub moved-some : (l : List Cells) → some_moves t g e l ≡ true → (r : Cells) × Memᴰ r l × ((r' : Cells) × Step t g e no_variables r r')
   moved-some [] h = absurd (true≢false (sym h))
   moved-some (x ∷ l) h = at (has_one (moves t g e no_variables x)) refl (λ k. moved-some l k) h
     where

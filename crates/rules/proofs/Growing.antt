@@ -48,7 +48,7 @@ module _ (d : Drawing) (s : sound d.nodes d.arrows ≡ true) where
   unfolding sound
   parts = let p = and_parts _ _ s in (p.0, (and_parts _ _ p.1).0)
 
-  node-parts : (i : ℕ) (n : Node) → slice_get d.nodes i ≡ Some n → (node_sound n ≡ true) × (children_free (take i d.nodes) [] (children_of n) ≡ true)
+  pub node-parts : (i : ℕ) (n : Node) → slice_get d.nodes i ≡ Some n → (node_sound n ≡ true) × (children_free (take i d.nodes) [] (children_of n) ≡ true)
   node-parts i n e =
       let lt = slice_get_within d.nodes i n e in
       let is : slice_index_or d.nodes i blank_node ≡ n = get_or_from_slice_get d.nodes i n blank_node e in

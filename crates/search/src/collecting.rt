@@ -236,7 +236,7 @@ impl Search<'_> {
         let mut places = [Row { cells: [0; 48] }; 128];
         let mut moved = Ordered::over(&mut places);
         self.collect(left, row, &mut moved)?;
-        self.each(right, &moved, out)
+        self.each(right, moved.as_slice(), out)
     }
 
     /// A synchronisation.
@@ -265,17 +265,12 @@ impl Search<'_> {
 
     /// The same part of each of some rows.
     #[cycle(collecting)]
-    pub fn each(
-        &self,
-        part: Part,
-        rows: &Ordered<Row>,
-        out: &mut Ordered<Row>,
-    ) -> Result<(), Overflow>
+    pub fn each(&self, part: Part, rows: &[Row], out: &mut Ordered<Row>) -> Result<(), Overflow>
         requires is_in_place { InPlace self.now.diagram.now part }
         ensures stays { Stays out.old out.new }
-        ensures adds_the_successors_of_each { Collects self.now (RowsOfEach self.now part (held rows.now)) out.old out.new result }
+        ensures adds_the_successors_of_each { Collects self.now (RowsOfEach self.now part rows.now) out.old out.new result }
     {
-        for row in rows.as_slice() {
+        for row in rows {
             self.collect(part, row, out)?;
         }
         Ok(())

@@ -81,7 +81,7 @@ pub(crate) fn each<H: GuardHost>(
     let answers = &Answers::of(diagram, host, event);
     match Part::root(diagram) {
         None => Ok(()),
-        Some(root) => Search { diagram, answers }.each(root, rows, out),
+        Some(root) => Search { diagram, answers }.each(root, rows.as_slice(), out),
     }
 }
 

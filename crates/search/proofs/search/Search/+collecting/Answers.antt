@@ -6,7 +6,7 @@ use Rattle.rules.specs.Cells.{initial, tagged, width, finished}
 use Rattle.rules.specs.Growing.{labels_of}
 use Rattle.motions.specs.Framing.{part_at, framed}
 use Rattle.motions.specs.Ways.{Any}
-use Rattle.motions.specs.Collecting.{EitherRow}
+use Rattle.motions.specs.Collecting.{Added, EitherRow, FromEach}
 use Rattle.diagram.specs.Valued.{values_of}
 use Rattle.diagram.specs.Plans.{tree_at}
 use Rattle.answers.specs.Answering.{node_answer}
@@ -240,7 +240,7 @@ both_sides-returns-clause-adds t c =
     let lent : room c.over-moved.result ≡ 128 = ap (λ (l : List Row). length l) c.over-moved.ensures.lends_these_places in
     λ g agrees r.
     sides-added d a g c.args.part c.args.left c.args.right c.args.row.now c.requires.are_beside c.requires.are_inside c.args.out.now c.each.new.out c.over-moved.result c.collect.new.out c.each.result c.over-moved.ensures.holds_nothing
-    (c.in_ok-collect.ensures.adds_the_successors g agrees (omega arith)) (c.each.ensures.adds_the_successors_of_each g agrees r)
+    (c.in_ok-collect.ensures.adds_the_successors g agrees (omega arith)) (subst (λ (l : List Row). Added (λ y. FromEach l (λ x z. Reached d a g c.args.right x z) y) c.args.out.now c.each.new.out c.each.result) c.as_slice.ensures.tells_what_is_held (c.each.ensures.adds_the_successors_of_each g agrees r))
 
 -- src/collecting.rt:398:5
 pub can_move-returns : goal.can_move-returns
@@ -405,7 +405,7 @@ each-returns-in_err-collect-clause-adds_the_successors_of_each t c =
     let same = stays.room in
     λ g agrees r.
     early _ c.args.out.now c.collect.new.out c.from_residual.result c.from_residual.ensures.0
-    (last-round (held c.args.rows.now) c.as_slice-row-items.result.now (λ x y. Reached c.args.self.now.diagram.now c.args.self.now.answers.now g c.args.part x y) c.as_slice-row-items.ensures.tells_what_is_held c.loop-row.row-index c.row-item.result c.loop-row-test.true c.row-item.is c.args.out.now c.loop-row.out stays
+    (last-round c.args.rows.now c.args.rows.now (λ x y. Reached c.args.self.now.diagram.now c.args.self.now.answers.now g c.args.part x y) refl c.loop-row.row-index c.row-item.result c.loop-row-test.true c.row-item.is c.args.out.now c.loop-row.out stays
     (c.loop-row.invariant.1 g agrees r)
     (c.in_err-collect.ensures.adds_the_successors g agrees (omega arith)))
 
@@ -419,7 +419,7 @@ pub each-returns-clause-adds_the_successors_of_each :
     goal.each-returns-clause-adds_the_successors_of_each
 each-returns-clause-adds_the_successors_of_each t c =
     λ g agrees r.
-    after-rounds (held c.args.rows.now) c.as_slice-row-items.result.now (λ x y. Reached c.args.self.now.diagram.now c.args.self.now.answers.now g c.args.part x y) c.as_slice-row-items.ensures.tells_what_is_held c.loop-row.row-index c.args.out.now c.loop-row.out c.loop-row-test.false
+    after-rounds c.args.rows.now c.args.rows.now (λ x y. Reached c.args.self.now.diagram.now c.args.self.now.answers.now g c.args.part x y) refl c.loop-row.row-index c.args.out.now c.loop-row.out c.loop-row-test.false
     (c.loop-row.invariant.1 g agrees r)
 
 -- src/collecting.rt:206:9
@@ -429,7 +429,7 @@ each-loop-row-preserved t c =
     let same = stays.room in (
       stays-then c.args.out.now c.loop-row.out c.collect.new.out stays c.in_ok-collect.ensures.stays,
       λ g agrees r.
-          next-round (held c.args.rows.now) c.as_slice-row-items.result.now (λ x y. Reached c.args.self.now.diagram.now c.args.self.now.answers.now g c.args.part x y) c.as_slice-row-items.ensures.tells_what_is_held c.loop-row.row-index c.row-item.result c.loop-row-test.true c.row-item.is c.args.out.now c.loop-row.out stays
+          next-round c.args.rows.now c.args.rows.now (λ x y. Reached c.args.self.now.diagram.now c.args.self.now.answers.now g c.args.part x y) refl c.loop-row.row-index c.row-item.result c.loop-row-test.true c.row-item.is c.args.out.now c.loop-row.out stays
           (c.loop-row.invariant.1 g agrees r)
           c.collect.new.out
           (c.in_ok-collect.ensures.adds_the_successors g agrees (omega arith)),

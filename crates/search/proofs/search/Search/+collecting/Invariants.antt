@@ -81,7 +81,7 @@ invariant-each-loop-row l =
     Stays l.initial.out l.out
     × ((g : Guards) → Agrees l.self.diagram.now l.self.answers.now g → room l.initial.out ≤ 128
     → Rising row_rank (held l.initial.out)
-    → Gained (FromEach (take l.row-index l.row-items) (λ x y. Reached l.self.diagram.now l.self.answers.now g l.part x y)) (held l.initial.out) (held l.out))
+    → Gained (FromEach (take l.row-index l.rows) (λ x y. Reached l.self.diagram.now l.self.answers.now g l.part x y)) (held l.initial.out) (held l.out))
 
 abbrev pub invariant-all_instances_of_each-loop-row : goal.invariant-all_instances_of_each-loop-row
 invariant-all_instances_of_each-loop-row l =
