@@ -1,0 +1,15 @@
+pub mod Advances
+pub mod Few
+pub mod Filled
+pub mod Finishes
+pub mod FirstRow
+pub mod HeldCells
+pub mod KeptValues
+pub mod Listed
+pub mod Menus
+pub mod Moving
+pub mod Openings
+pub mod Planned
+pub mod Putting
+pub mod Rising
+pub mod Trees

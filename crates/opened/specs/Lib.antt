@@ -1,0 +1,4 @@
+pub mod Opening
+pub mod States
+pub mod Opens
+pub mod Listing
