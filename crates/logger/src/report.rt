@@ -1,8 +1,9 @@
-ghost use Rattle.std.specs.Prelude.{◌≡◌, is_ok, IfOk};
+ghost use Rattle.std.specs.Prelude.{◌≡◌, is_ok, IfOk, string_bytes};
 ghost use Rattle.procedure.specs.Reading.{reading};
 ghost use Rattle.text.specs.Reports.{report_text};
 ghost use Rattle.logger.specs.Said.{said};
 
+use fault::fault::Fault;
 use procedure::procedure::Procedure;
 use std::alloc::{AllocError, Global};
 use text::fault_line::{ReasonLine, RefusedLine};
@@ -19,9 +20,13 @@ pub fn reported(heap: Global, file: &[u8]) -> Result<Report, AllocError>
     let mut procedure = Procedure::new();
     match procedure.read(file) {
         Ok(_) => Ok(Ok(format!(in heap; "{}", Listing(&procedure))?)),
-        Err(fault) => {
-            let text = format!(in heap; "{}\n{}\n", RefusedLine(fault), ReasonLine(fault))?;
-            Ok(Err(text))
-        }
+        Err(fault) => Ok(Err(refusal(heap, fault)?)),
     }
+}
+
+/// Why a file is refused.
+pub(crate) fn refusal(heap: Global, fault: Fault) -> Result<String, AllocError>
+    ensures { IfOk result (λ text. string_bytes text ≡ report_text (Err fault)) }
+{
+    format!(in heap; "{}\n{}\n", RefusedLine(fault), ReasonLine(fault))
 }

@@ -1,7 +1,7 @@
 //! What the program says: the lines of nodes, arrows and faults, byte for byte.
 #![tactic(auto)]
 
-mod accepted_line;
+pub mod accepted_line;
 pub mod arrow_line;
 mod each;
 pub mod fault_line;

@@ -1,0 +1,5 @@
+pub mod Digits
+pub mod Fresh
+pub mod Parts
+pub mod Standing
+pub mod Texted

@@ -1,0 +1,9 @@
+pub mod Words
+pub mod Numbers
+pub mod Names
+pub mod Lines
+pub mod Events
+pub mod Texts
+pub mod Wrongs
+pub mod Hosts
+pub mod Laws
