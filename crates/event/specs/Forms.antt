@@ -4,6 +4,7 @@ use Rattle.std.specs.declared.cmp.Ordering.{Ordering}
 use Rattle.std.specs.Ordering.{ordering_then, nat_cmp}
 use Rattle.fault.specs.Asking.{Asked, asked_of_fields}
 use Rattle.fault.specs.declared.fault.Question.TheVariants.{EventInForm}
+use Rattle.ordered.specs.Held.{OrderedBy}
 use Rattle.event.specs.declared.event.Event.{Event}
 
 -- the label is at most 255, there are at most two arguments, and an unused argument is 0
@@ -37,3 +38,7 @@ event_rank a b =
     ordering_then (nat_cmp a.label b.label)
     (ordering_then (nat_cmp a.count b.count)
     (ordering_then (nat_cmp a.first b.first) (nat_cmp a.second b.second)))
+
+-- an ordered list of events
+abbrev pub OrderedEvents : Type 0
+OrderedEvents = OrderedBy event_rank

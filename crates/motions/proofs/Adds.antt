@@ -9,10 +9,9 @@ use mathlib.Core.List.{Memᴰ}
 use mathlib.Core.List.Memᴰ
 use Rattle.ordered.specs.Held.{held, room}
 use Rattle.ordered.specs.Order.{Rising, spills, insert_ordered, StaysRising, HoldsNothingElse, HoldsExactly}
-use Rattle.ordered.specs.declared.list.Ordered.{Ordered}
 use Rattle.ordered.proofs.Laws.{rising-insert, in-insert}
 use Rattle.ordered.proofs.Alone.{shorter}
-use Rattle.row.specs.Rows.{row_rank}
+use Rattle.row.specs.Rows.{row_rank, OrderedRows}
 use Rattle.row.specs.Laws.{row_order}
 use Rattle.row.specs.declared.row.Row.{Row}
 use Rattle.motions.specs.Collecting.{Gained, Exceeds, Adds, Stays, Added, AlikeRows, EitherRow, FromEach}
@@ -84,25 +83,25 @@ module _ {E : Type 0} where
   adds-then X Y n before mid after (Err e) a b = exceeds-then X Y n before mid a b
 
 -- a list stays, and what stays twice stays
-pub stays-refl : (o : Ordered Row) → Stays o o
+pub stays-refl : (o : OrderedRows) → Stays o o
 stays-refl o = record { room = refl; lender = refl }
 
-pub stays-then : (o m o' : Ordered Row) → Stays o m → Stays m o' → Stays o o'
+pub stays-then : (o m o' : OrderedRows) → Stays o m → Stays m o' → Stays o o'
 stays-then o m o' s t = record { room = t.room ∙ s.room; lender = t.lender ∙ s.lender }
 
 -- the same for lists over lent places: `Added X o m (Ok tt)` says that X is gained if o rises, and with an error that X exceeds its room
-pub added-none : (X : Row → Type 0) (o : Ordered Row) → ((y : Row) → X y → ⊥) → Rising row_rank (held o) → Gained X (held o) (held o)
+pub added-none : (X : Row → Type 0) (o : OrderedRows) → ((y : Row) → X y → ⊥) → Rising row_rank (held o) → Gained X (held o) (held o)
 added-none X o f r = adds-none X (held o) r f
 
-pub added-overflow : (X Z : Row → Type 0) (o : Ordered Row) → (Rising row_rank (held o) → Exceeds X (room o) (held o)) → ((y : Row) → X y → Z y)
+pub added-overflow : (X Z : Row → Type 0) (o : OrderedRows) → (Rising row_rank (held o) → Exceeds X (room o) (held o)) → ((y : Row) → X y → Z y)
     → Rising row_rank (held o) → Exceeds Z (room o) (held o)
 added-overflow X Z o a f r = adds-overflow X Z (room o) (held o) (a r) f
 
 module _ {E : Type 0} where
-  pub added-alike : (X Z : Row → Type 0) (o o' : Ordered Row) (r : Result (Unit {0}) E) → AlikeRows X Z → Added X o o' r → Added Z o o' r
+  pub added-alike : (X Z : Row → Type 0) (o o' : OrderedRows) (r : Result (Unit {0}) E) → AlikeRows X Z → Added X o o' r → Added Z o o' r
   added-alike X Z o o' r s a h = adds-alike X Z (room o) (held o) (held o') r s (a h)
 
-  pub added-then : (X Y : Row → Type 0) (o m o' : Ordered Row) (r : Result (Unit {0}) E)
+  pub added-then : (X Y : Row → Type 0) (o m o' : OrderedRows) (r : Result (Unit {0}) E)
       → Stays o m → (Rising row_rank (held o) → Gained X (held o) (held m)) → Added Y m o' r → Added (EitherRow X Y) o o' r
   added-then X Y o m o' r s a b h =
       let x : Gained X (held o) (held m) = a h in
@@ -177,7 +176,7 @@ pub each-alike : (l : List Row) (Y Z : Row → Row → Type 0) → ((x : Row) �
 each-alike l Y Z f = record { to = λ y w. (w.0, w.1, (f w.0 w.1).to y w.2); fro = λ y w. (w.0, w.1, (f w.0 w.1).fro y w.2) }
 
 -- a loop over a list of rows: the next row
-pub added-each : {E : Type 0} (l : List Row) (Y : Row → Row → Type 0) (i : ℕ) (x : Row) (o m o' : Ordered Row) (r : Result (Unit {0}) E)
+pub added-each : {E : Type 0} (l : List Row) (Y : Row → Row → Type 0) (i : ℕ) (x : Row) (o m o' : OrderedRows) (r : Result (Unit {0}) E)
     → slice_get l i ≡ Some x → Stays o m → (Rising row_rank (held o) → Gained (FromEach (take i l) Y) (held o) (held m)) → Added (Y x) m o' r
     → Added (FromEach (take (i + 1) l) Y) o o' r
 added-each l Y i x o m o' r e s a b =

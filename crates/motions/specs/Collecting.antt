@@ -3,8 +3,7 @@ use Rattle.std.specs.Prelude.{◌≡◌, ℕ, ◌<◌, ◌⊎◌, List, length, 
 use mathlib.Core.List.{Memᴰ}
 use Rattle.ordered.specs.Held.{held, room}
 use Rattle.ordered.specs.Order.{Rising}
-use Rattle.ordered.specs.declared.list.Ordered.{Ordered}
-use Rattle.row.specs.Rows.{row_rank}
+use Rattle.row.specs.Rows.{row_rank, OrderedRows}
 use Rattle.row.specs.declared.row.Row.{Row}
 
 -- `after` rises, and holds exactly what `before` held and the rows of X
@@ -25,12 +24,12 @@ abbrev pub Adds : {E : Type 0} → (Row → Type 0) → ℕ → List Row → Lis
 Adds X n before after r = MatchResult r (λ _. Gained X before after) (λ _. Exceeds X n before)
 
 -- what stays of a list that is added to: its room, and its lender
-pub record Stays (before after : Ordered Row) : Type 0 where
+pub record Stays (before after : OrderedRows) : Type 0 where
   pub room : room after ≡ room before
   pub lender : after.places.ghost_name ≡ before.places.ghost_name
 
 -- the same of a list over lent places, which rises before
-abbrev pub Added : {E : Type 0} → (Row → Type 0) → Ordered Row → Ordered Row → Result (Unit {0}) E → Type 0
+abbrev pub Added : {E : Type 0} → (Row → Type 0) → OrderedRows → OrderedRows → Result (Unit {0}) E → Type 0
 Added X before after r = Rising row_rank (held before) → Adds X (room before) (held before) (held after) r
 
 -- the same rows

@@ -8,7 +8,7 @@ use Rattle.ordered.proofs.Laws.{below-in}
 
 module _ {X : Type 0} (c : X → X → Ordering) (o : Order c) where
   -- nothing is below itself
-  not-below-itself : (x : X) → c x x ≡ Less → ⊥
+  pub not-below-itself : (x : X) → c x x ≡ Less → ⊥
   not-below-itself x e = true≢false (ap is_lt (sym e ∙ o.flip x x ∙ ap ordering_reverse e))
 
   heads : (x y : X) (xs ys : List X) → Rising c (x ∷ xs) → Rising c (y ∷ ys) → Memᴰ x (y ∷ ys) → Memᴰ y (x ∷ xs) → x ≡ y

@@ -92,6 +92,9 @@ module _ {X : Type 0} (c : X → X → Ordering) where
         ] in
         go (c x y) refl
 
+    pub rising-kept : (n : ℕ) (xs : List X) (x : X) → Rising c xs → Rising c (kept c n xs x)
+    rising-kept n xs x r = rising-take n (insert_ordered c xs x) (rising-insert xs x r)
+
     pub in-back : (xs : List X) (x y : X) → HeldOrNew xs x y → Memᴰ y (insert_ordered c xs x)
     in-back [] x y i = ⊎_elim (λ m. absurd (Memᴰ.not-nil m)) (λ e. Memᴰ.head e) i
     in-back (w ∷ ws) x y i =
@@ -115,7 +118,7 @@ module _ {X : Type 0} (c : X → X → Ordering) where
       pub promised : Promised c xs x after over
       promised = record {
         grows = rw is (omega (arith, longer xs x, length-take n (insert_ordered c xs x)));
-        rises = λ r. rw is (rising-take n (insert_ordered c xs x) (rising-insert xs x r));
+        rises = λ r. rw is (rising-kept n xs x r);
         only = only;
         exactly = λ none y.
             let short : length (insert_ordered c xs x) ≤ n = ltb-false n (length (insert_ordered c xs x)) (sym is-over ∙ none) in

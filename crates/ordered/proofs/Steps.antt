@@ -1,4 +1,4 @@
--- What a search from the front finds, against the list that the definition gives.
+-- What a search finds, against the list that the definition gives, which goes from the front.
 use Rattle.std.proofs.Common.{◌≡◌, ℕ, zero, suc, List, [], ◌∷◌, Ordering, Less, Equal, Greater, refl, ap, ◌∙◌, arith}
 use Rattle.std.specs.List.{insert}
 use Rattle.ordered.specs.Order.{by_rank, insert_ordered}

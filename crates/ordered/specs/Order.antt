@@ -4,7 +4,8 @@ use Rattle.std.specs.Prelude.{◌≡◌, ℕ, Bool, false, ◌⊎◌, ◌↔◌,
 use Rattle.std.specs.declared.cmp.Ordering.TheVariants.{Less, Equal, Greater}
 use Rattle.std.specs.declared.cmp.Ordering.{Ordering}
 use mathlib.Core.List.{Memᴰ}
-use Rattle.std.specs.Ordering.{ordering_reverse}
+use Rattle.std.specs.Ordering.{ordering_reverse, Ordering-set}
+use Rattle.std.specs.Coded.{×_prop, Unit-prop}
 
 -- the laws of a total order
 pub record Order {X : Type 0} (c : X → X → Ordering) : Type 0 where
@@ -21,6 +22,15 @@ Below c x (y ∷ ys) = (c x y ≡ Less) × Below c x ys
 abbrev pub Rising : {X : Type 0} → (X → X → Ordering) → List X → Type 0
 Rising c [] = Unit {0}
 Rising c (x ∷ xs) = Below c x xs × Rising c xs
+
+-- there is one proof of it at most, as a struct that keeps the fact asks
+Below-prop : {X : Type 0} (c : X → X → Ordering) (x : X) (ys : List X) → IsProp (Below c x ys)
+Below-prop c x [] = Unit-prop
+Below-prop c x (y ∷ ys) = ×_prop (Ordering-set (c x y) Less) (Below-prop c x ys)
+
+pub Rising-prop : {X : Type 0} (c : X → X → Ordering) (xs : List X) → IsProp (Rising c xs)
+Rising-prop c [] = Unit-prop
+Rising-prop c (x ∷ xs) = ×_prop (Below-prop c x xs) (Rising-prop c xs)
 
 -- one of three, by the answer of a comparison
 abbrev pub by_rank : {X : Type 0} → Ordering → X → X → X → X

@@ -1,4 +1,4 @@
--- Where an element stands, or comes in, in a list that is searched from its front.
+-- Where an element stands in a list, or comes in: the place before which it is above each.
 use Rattle.std.specs.Prelude.{◌≡◌, ℕ, ◌<◌, ◌≤◌, List, length, slice_index_or}
 use Rattle.std.specs.declared.cmp.Ordering.TheVariants.{Less, Equal, Greater}
 use Rattle.std.specs.declared.cmp.Ordering.{Ordering}

@@ -1,5 +1,6 @@
-ghost use Rattle.std.specs.Prelude.{◌≡◌, ℕ, ◌+◌, ◌≤◌, ◌==◌, min, [], length, take};
+ghost use Rattle.std.specs.Prelude.{◌≡◌, ℕ, ◌+◌, ◌≤◌, Decides, min, [], length, take};
 ghost use Rattle.std.specs.List.{slice_get};
+ghost use mathlib.Core.List.{Memᴰ};
 ghost use Rattle.ordered.specs.Held.{held, room, places_from};
 ghost use Rattle.ordered.specs.Order.{kept, spills, StaysRising, HoldsNothingElse, HoldsExactly, LeavesOutAbove};
 
@@ -15,16 +16,6 @@ impl<'a, T: Rank + Copy> Ordered<'a, T> {
         ensures keeps_its_lender { result.places.ghost_name ≡ places.entry.ghost_name }
     {
         Ordered { places, used: 0 }
-    }
-
-    /// The list in the first `len` of lent places, as another one left it there.
-    pub fn resume(places: &'a mut [T], len: usize) -> Ordered<'a, T>
-        ensures holds_the_first_places { held result ≡ take len places.old }
-        ensures lends_these_places { result.places.now ≡ places.old }
-        ensures keeps_its_lender { result.places.ghost_name ≡ places.entry.ghost_name }
-    {
-        let used = len.min(places.len());
-        Ordered { places, used }
     }
 
     /// How many elements it holds.
@@ -56,18 +47,20 @@ impl<'a, T: Rank + Copy> Ordered<'a, T> {
         self.as_slice().get(position).copied()
     }
 
-    /// Takes one more place into use. The answer is yes where all were.
-    fn grow(&mut self) -> bool
-        ensures counts { self.new.used ≡ min (room self.old) (self.old.used + 1) }
-        ensures says { result ≡ (self.old.used == room self.old) }
-        ensures keeps { self.new.places ≡ self.old.places }
+    /// Whether an element is held.
+    pub fn has(&self, x: &T) -> bool
+        ensures tells_whether_it_is_held { Decides result (Memᴰ x.now (held self.now)) }
+    {
+        seek(self.as_slice(), x).is_ok()
+    }
+
+    /// How many places are in use with one more, if there is one more.
+    fn grown(&self) -> usize
+        ensures { result ≡ min (room self.now) (self.now.used + 1) }
     {
         // not `min(self.used + 1)` of the room: that sum may wrap where elements have no size
-        let full = self.used == self.places.len();
-        if !full {
-            self.used += 1;
-        }
-        full
+        let spare = self.used < self.places.len();
+        usize::from(spare) + self.used
     }
 
     /// Puts an element in, unless it is there. Where there is no room for all, the last is left out, and the answer is yes.
@@ -86,8 +79,10 @@ impl<'a, T: Rank + Copy> Ordered<'a, T> {
         let Err(at) = seek(self.as_slice(), &x) else {
             return false;
         };
-        let full = self.grow();
-        insert_at(self.places, at, self.used, x);
+        let end = self.grown();
+        let full = end == self.used;
+        insert_at(self.places, at, end, x);
+        self.used = end;
         full
     }
 }

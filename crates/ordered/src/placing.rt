@@ -1,22 +1,23 @@
 ghost use Rattle.std.specs.Prelude.{◌≡◌, ℕ, ◌≤◌, length, take, drop, MatchResult};
 ghost use Rattle.std.specs.List.{insert};
+ghost use Rattle.ordered.specs.Order.{Rising};
 ghost use Rattle.ordered.specs.Seeking.{MetAt, ComesAt};
 
 use crate::rank::Rank;
-use std::cmp::Ordering;
 
-/// Where x is met, or else where it comes in. From the front, since a binary search answers so only of lists that rise.
+/// Where x is met, or else where it comes in: by halves.
 pub(crate) fn seek<T: Rank>(xs: &[T], x: &T) -> Result<usize, usize>
+    requires { Rising T.rank xs.now }
     ensures { MatchResult result (MetAt T.rank xs.now x.now) (ComesAt T.rank xs.now x.now) }
 {
-    for (i, y) in xs.iter().enumerate() {
-        match x.compare(y) {
-            Ordering::Less => return Err(i),
-            Ordering::Equal => return Ok(i),
-            Ordering::Greater => {}
-        }
+    // the last is compared first, since what is put in mostly comes in order
+    let Some(last) = xs.last() else {
+        return Err(0);
+    };
+    if x.compare(last).is_gt() {
+        return Err(xs.len());
     }
-    Err(xs.len())
+    xs.binary_search_by(|y| y.compare(x))
 }
 
 /// Puts x at `at` among the places up to `end`, with the others one place up. The one before `end` is overwritten.

@@ -38,21 +38,32 @@ fn later_places_stay(rt: HostRuntime) {
     assert_eq!(rt; places, [plain(7), plain(91), plain(92)]);
 }
 
+/// A list of eight even labels, put in from the middle outwards.
+fn evens<'a>(places: &'a mut [Event; 8]) -> Ordered<'a, Event> {
+    let mut list = Ordered::over(places);
+    for label in [8, 6, 10, 4, 12, 2, 14, 0] {
+        list.insert(plain(label));
+    }
+    list
+}
+
 #[test]
-fn a_list_is_resumed(rt: HostRuntime) {
-    let mut places = [plain(1), plain(5), plain(90)];
-    let mut list = Ordered::resume(&mut places, 2);
-    assert!(rt; !list.insert(plain(3)));
-    assert_eq!(rt;
-        events(&list),
-        [Some(plain(1)), Some(plain(3)), Some(plain(5))]
-    );
-    let all = Ordered::resume(&mut places, 7);
-    assert_eq!(rt;
-        all.len(),
-        3,
-        "a length past the slice counts as the slice's"
-    );
+fn an_element_finds_its_place(rt: HostRuntime) {
+    let mut places = [plain(90); 8];
+    let list = evens(&mut places);
+    let labels = [0, 2, 4, 6, 8, 10, 12, 14];
+    assert_eq!(rt; list.as_slice(), labels.map(plain).as_slice());
+}
+
+#[test]
+fn a_list_has_what_it_holds(rt: HostRuntime) {
+    let mut places = [plain(90); 8];
+    let list = evens(&mut places);
+    for label in 0..16 {
+        assert_eq!(rt; list.has(&plain(label)), label % 2 == 0, "{label}");
+    }
+    assert!(rt; !list.has(&plain(90)), "a place that is not in use");
+    assert!(rt; !Ordered::over(&mut [plain(90)]).has(&plain(90)));
 }
 
 #[test]

@@ -1,12 +1,11 @@
-use Rattle.std.proofs.Common.{◌≡◌, ℕ, ◌≤◌, false, List, length, take, refl, sym, ap, ◌∙◌, arith}
+use Rattle.std.proofs.Common.{◌≡◌, ℕ, ◌≤◌, ◌==◌, false, List, length, take, refl, sym, arith}
 use Rattle.std.proofs.lemmas.Bool.Decides.{nat_tests}
 use Rattle.std.proofs.lemmas.List.{take_all, length-take-le}
-use Rattle.std.specs.List.{insert}
 use Rattle.ordered.specs.Order.{Order, kept, spills, insert_ordered}
 use Rattle.ordered.specs.Seeking.{ComesAt}
-use Rattle.ordered.proofs.Fitted.{fitted, left-out}
-use Rattle.ordered.proofs.Laws.{Promised, promised}
-use Rattle.ordered.proofs.Steps.{comes, met}
+use Rattle.ordered.proofs.Fitted.{put-in, full-spills}
+use Rattle.ordered.proofs.Laws.{Promised, promised, rising-kept}
+use Rattle.ordered.proofs.Steps.{met}
 use Rattle.ordered.proofs.list.Ordered.insert.Given.{Over}
 use Rattle.ordered.proofs.list.Ordered.insert.Goals as goal
 
@@ -39,6 +38,21 @@ returns-in_default g c =
       leaves_out_only_what_is_above = p.above;
     }
 
+pub invariant_of-self : goal.invariant_of-self
+invariant_of-self g c =
+    let rank = g.T.Rank.rank in
+    let s : List g.row.T.Denot = c.args.self.now.places.now in
+    let used : ℕ = c.args.self.now.used in
+    let end : ℕ = c.grown-end.result in
+    let t : List g.row.T.Denot = c.insert_at.new.places in
+    let in-use : used ≤ length s = c.args.self.now.fits in
+    let here : ComesAt rank (take used s) c.args.x c.in-Err.at = rw c.as_slice.ensures.tells_what_is_held at c.in-Err.ensures in
+    let is : take end t ≡ kept rank (length s) (take used s) c.args.x = put-in rank s t c.in-Err.at used end c.args.x in-use here c.grown-end.ensures c.insert_at.ensures.puts in
+    record {
+      fits = omega (arith, c.grown-end.ensures, c.insert_at.auto.places);
+      rises = rw is (rising-kept rank (order g) (length s) (take used s) c.args.x c.args.self.now.rises);
+    }
+
 pub returns : goal.returns
 returns g c =
     let rank = g.T.Rank.rank in
@@ -47,25 +61,23 @@ returns g c =
     let xs : List g.row.T.Denot = take used s in
     let x = c.args.x in
     let at = c.in-Err.at in
-    let end : ℕ = c.grow-full.new.self.used in
+    let end : ℕ = c.grown-end.result in
     let t : List g.row.T.Denot = c.insert_at.new.places in
     let in-use : used ≤ length s = c.args.self.now.fits in
-    let long : length xs ≡ used = length-take-le used s in-use in
+    let fits : length xs ≤ length s = omega (arith, length-take-le used s in-use) in
     let here : ComesAt rank xs x at = rw c.as_slice.ensures.tells_what_is_held at c.in-Err.ensures in
-    let put : insert_ordered rank xs x ≡ insert xs at x = comes rank x xs at here in
-    let low : at ≤ used = omega (arith, here.there) in
-    let room : length t ≡ length s = rw c.grow-full.ensures.keeps at c.insert_at.auto.places in
-    let puts : take end t ≡ take end (insert s at x) = rw c.grow-full.ensures.keeps at c.insert_at.ensures.puts in
-    let is : take end t ≡ kept rank (length s) xs x = puts ∙ rw (c.grow-full.ensures.counts, put) (fitted s at used x low in-use) in
-    let over : c.grow-full.result ≡ spills rank (length s) xs x = c.grow-full.ensures.says ∙ rw put (left-out s at used x low in-use) in
-    let p : Promised rank xs x (take end t) c.grow-full.result = promised rank (order g) (length s) xs x (take end t) c.grow-full.result (omega arith) is over in
+    let is : take end t ≡ kept rank (length s) xs x = put-in rank s t at used end x in-use here c.grown-end.ensures c.insert_at.ensures.puts in
+    let full = end == used in
+    let over : full ≡ spills rank (length s) xs x = full-spills rank s at used end x in-use here c.grown-end.ensures in
+    let p : Promised rank xs x (take end t) full = promised rank (order g) (length s) xs x (take end t) full fits is over in
+    let fills : length (take end t) ≡ end = length-take-le end t (omega (arith, c.grown-end.ensures, c.insert_at.auto.places)) in
     record {
       holds_the_first_in_order = is;
       says_whether_one_is_left_out = over;
-      leaves_later_places = λ n le. rw c.grow-full.ensures.keeps at c.insert_at.ensures.leaves n (omega (arith, length-take-le end t (omega (arith, c.grow-full.ensures.counts))));
+      leaves_later_places = λ n le. c.insert_at.ensures.leaves n (omega (arith, fills));
       holds_no_fewer = p.grows;
-      keeps_its_room = room;
-      keeps_its_lender = ap (λ p. p.ghost_name) c.grow-full.ensures.keeps;
+      keeps_its_room = c.insert_at.auto.places;
+      keeps_its_lender = refl;
       stays_rising = p.rises;
       holds_nothing_else = p.only;
       holds_exactly_old_and_new_unless_one_is_left_out = p.exactly;
