@@ -1,2 +1,4 @@
+pub mod Agreeing
 pub mod Bits
-pub mod Past
+pub mod Entries
+pub mod Positions

@@ -1,123 +1,123 @@
-ghost use Rattle.std.specs.Prelude.{◌≡◌, ℕ, [], Some, ◌==◌};
-ghost use Rattle.std.specs.Int.{bit_at};
+ghost use Rattle.std.specs.Prelude.{◌≡◌, ℕ, ◌≤◌, true, [], length, Some, None};
 ghost use Rattle.std.specs.List.{slice_get};
+ghost use Rattle.host.specs.declared.variables.Variables.{Variables};
 ghost use Rattle.rules.specs.Chains.{answers_after};
-ghost use Rattle.answers.specs.Answering.{reply_in, rows_of, answer_under, answer_at, asked_node, asked_arrow, Agrees};
-ghost use Rattle.diagram.specs.Plans.{arrows_in};
+ghost use Rattle.diagram.specs.Valued.{values_of};
+ghost use Rattle.diagram.specs.Plans.{nodes_of, arrows_in};
+ghost use Rattle.diagram.specs.Scopes.{variable_at};
+ghost use Rattle.answers.specs.Answering.{rows_of, Matters, IsRow, AreRows, AreOfNode, AreOfArrow, Agrees, Enough};
 
-use crate::answers::{Answers, Replies};
-use diagram::binders::Binders;
+use crate::answers::{Answers, Entries, Replies};
+use crate::carrying::carries;
+use crate::place::Place;
 use diagram::diagram::Diagram;
 use event::event::Event;
 use host::host::GuardHost;
 use host::variables::Variables;
 use notation::node::Node;
 
-/// What a guard answers under variables, and no where there are none.
-fn answer<H: GuardHost>(host: &H, event: Event, guard: u16, variables: Option<Variables>) -> bool
-    ensures { result ≡ answer_under (answers_after (H.meaning host.now) [] event) (Some guard) variables }
+/// A bound of a variable's positions: those of its type's values are counted from 1, and without a type it is at 0.
+fn positions(diagram: &Diagram, over: Option<u16>) -> usize
+    ensures bounds { (k : ℕ) → result ≤ k → variable_at (values_of diagram.now.plan.values) over k ≡ None }
+    ensures fits { result ≤ 17 }
 {
-    variables.is_some_and(|variables| host.holds(guard, event, variables))
+    match over {
+        None => 1,
+        Some(ty) => diagram.values(ty).len() + 1,
+    }
 }
 
-/// The replies of a guard at each inner position, where the outer one is given.
-fn row<H: GuardHost>(
-    diagram: &Diagram,
-    host: &H,
-    event: Event,
-    guard: u16,
-    binders: Binders,
-    outer: usize,
-) -> u32
-    ensures { (inner : ℕ) → (bit_at result inner == 1) ≡ answer_at diagram.now (answers_after (H.meaning host.now) [] event) (Some guard) binders outer inner }
-{
-    let mut row = 0;
-    for inner in 0..17usize {
-        if answer(host, event, guard, diagram.variables(binders, outer, inner)) {
-            row |= 1u32 << inner;
+impl Place {
+    /// Whether the answer to the event under these variables matters here.
+    fn matters(&self, event: Event, variables: Variables) -> bool
+        ensures { Matters self.now.arrow event variables → result ≡ true }
+    {
+        match self.arrow {
+            None => true,
+            Some(arrow) => carries(&arrow, event, variables),
         }
     }
-    row
-}
 
-/// The replies of a guard at each pair of positions.
-fn replies<H: GuardHost>(
-    diagram: &Diagram,
-    host: &H,
-    event: Event,
-    guard: u16,
-    binders: Binders,
-) -> Replies
-    ensures { (outer inner : ℕ) → reply_in result.rows outer inner ≡ answer_at diagram.now (answers_after (H.meaning host.now) [] event) (Some guard) binders outer inner }
-{
-    let mut rows = [0; 17];
-    for outer in 0..17 {
-        rows[outer] = row(diagram, host, event, guard, binders, outer);
+    /// What the guard answers under variables; no where there are none, or where it does not matter.
+    fn answer<H: GuardHost>(&self, host: &H, event: Event, variables: Option<Variables>) -> bool
+        ensures { (v : Variables) → variables ≡ Some v → Matters self.now.arrow event v → result ≡ answers_after (H.meaning host.now) [] event self.now.guard v }
+    {
+        variables.is_some_and(|variables| {
+            self.matters(event, variables) && host.holds(self.guard, event, variables)
+        })
     }
-    Replies { rows }
-}
 
-/// The replies of the guard of a node. One that is no guard, or is not there, has no everywhere.
-fn at_node<H: GuardHost>(diagram: &Diagram, host: &H, event: Event, i: usize) -> Replies
-    ensures { (outer inner : ℕ) → reply_in result.rows outer inner ≡ asked_node diagram.now (answers_after (H.meaning host.now) [] event) i outer inner }
-{
-    match diagram.procedure().node(i) {
-        Some(Node::Guard { guard, .. }) => replies(diagram, host, event, guard, diagram.binders(i)),
-        _ => Replies::none(),
+    /// The replies at each inner position, where the outer one is given.
+    fn row<H: GuardHost>(&self, diagram: &Diagram, host: &H, event: Event, outer: usize) -> u32
+        ensures { IsRow diagram.now (answers_after (H.meaning host.now) [] event) event self.now outer result }
+    {
+        let mut row = 0;
+        for inner in 0..positions(diagram, self.binders.inner) {
+            if self.answer(host, event, diagram.variables(self.binders, outer, inner)) {
+                row |= 1u32 << inner;
+            }
+        }
+        row
     }
-}
 
-/// The replies of the guard of an arrow. One without a guard or with another label, or that is not there, has no everywhere.
-fn at_arrow<H: GuardHost>(diagram: &Diagram, host: &H, event: Event, k: usize) -> Replies
-    ensures { (outer inner : ℕ) → reply_in result.rows outer inner ≡ asked_arrow diagram.now (answers_after (H.meaning host.now) [] event) event (slice_get (arrows_in diagram.now.plan) k) outer inner }
-{
-    let Some(arrow) = diagram.procedure().arrow(k) else {
-        return Replies::none();
-    };
-    match arrow.guard {
-        Some(guard) if arrow.label == event.label => replies(
-            diagram,
-            host,
-            event,
-            guard,
-            diagram.binders(usize::from(arrow.node)),
-        ),
-        _ => Replies::none(),
+    /// The replies at each pair of positions.
+    fn replies<H: GuardHost>(&self, diagram: &Diagram, host: &H, event: Event) -> Replies
+        ensures { AreRows diagram.now (answers_after (H.meaning host.now) [] event) event self.now result.rows }
+    {
+        let mut rows = [0; 17];
+        for outer in 0..positions(diagram, self.binders.outer) {
+            rows[outer] = self.row(diagram, host, event, outer);
+        }
+        Replies { rows }
     }
 }
 
-/// The replies at the nodes by their numbers.
-fn at_nodes<H: GuardHost>(diagram: &Diagram, host: &H, event: Event) -> [Replies; 64]
-    ensures { (i outer inner : ℕ) → reply_in (rows_of (slice_get result i)) outer inner ≡ asked_node diagram.now (answers_after (H.meaning host.now) [] event) i outer inner }
+/// Asks the guards of the nodes.
+fn ask_nodes<H: GuardHost>(nodes: &mut [Replies], diagram: &Diagram, host: &H, event: Event)
+    requires are_enough { length (nodes_of diagram.now.plan) ≤ length nodes.old }
+    ensures { (i : ℕ) → AreOfNode diagram.now (answers_after (H.meaning host.now) [] event) event i (rows_of (slice_get nodes.new i)) }
 {
-    let mut nodes = [Replies::none(); 64];
-    for i in 0..64 {
-        nodes[i] = at_node(diagram, host, event, i);
+    for (i, node) in diagram.procedure().nodes().iter().enumerate() {
+        if let Node::Guard { guard, .. } = node {
+            let place = Place {
+                guard: *guard,
+                binders: diagram.binders(i),
+                arrow: None,
+            };
+            nodes[i] = place.replies(diagram, host, event);
+        }
     }
-    nodes
 }
 
-/// The replies at the arrows by theirs.
-fn at_arrows<H: GuardHost>(diagram: &Diagram, host: &H, event: Event) -> [Replies; 256]
-    ensures { (k outer inner : ℕ) → reply_in (rows_of (slice_get result k)) outer inner ≡ asked_arrow diagram.now (answers_after (H.meaning host.now) [] event) event (slice_get (arrows_in diagram.now.plan) k) outer inner }
+/// Asks the guards of the arrows; none of those with another label carries the event.
+fn ask_arrows<H: GuardHost>(arrows: &mut [Replies], diagram: &Diagram, host: &H, event: Event)
+    requires are_enough { length (arrows_in diagram.now.plan) ≤ length arrows.old }
+    ensures { (k : ℕ) → AreOfArrow diagram.now (answers_after (H.meaning host.now) [] event) event k (rows_of (slice_get arrows.new k)) }
 {
-    let mut arrows = [Replies::none(); 256];
-    for k in 0..256 {
-        arrows[k] = at_arrow(diagram, host, event, k);
+    for (k, arrow) in diagram.procedure().arrows().iter().enumerate() {
+        match arrow.guard {
+            Some(guard) if arrow.label == event.label => {
+                let place = Place {
+                    guard,
+                    binders: diagram.binders(usize::from(arrow.node)),
+                    arrow: Some(*arrow),
+                };
+                arrows[k] = place.replies(diagram, host, event);
+            }
+            _ => {}
+        }
     }
-    arrows
 }
 
-impl Answers {
-    /// Asks a host, which is told nothing, for every guard place and all variables that can be in scope there.
-    pub fn of<H: GuardHost>(diagram: &Diagram, host: &H, event: Event) -> Answers
+impl<const N: usize, const A: usize> Entries<N, A> {
+    /// Asks a host, which is told nothing, for every guard place and all variables that can be in scope there, whatever the entries held.
+    pub fn ask<H: GuardHost>(&mut self, diagram: &Diagram, host: &H, event: Event) -> Answers<'_>
+        requires are_enough { Enough N A diagram.now }
         ensures answers_to_the_event { result.event ≡ event }
         ensures agrees_with_the_host { Agrees diagram.now result (answers_after (H.meaning host.now) [] event) }
     {
-        Answers {
-            event,
-            nodes: at_nodes(diagram, host, event),
-            arrows: at_arrows(diagram, host, event),
-        }
+        ask_nodes(&mut self.nodes, diagram, host, event);
+        ask_arrows(&mut self.arrows, diagram, host, event);
+        self.to(event)
     }
 }

@@ -3,4 +3,7 @@
 
 pub mod answers;
 pub mod asking;
+pub mod carrying;
+mod place;
 pub mod replying;
+pub mod willing;

@@ -1,4 +1,4 @@
-ghost use Rattle.std.specs.Prelude.{◌≡◌, ℕ, false};
+ghost use Rattle.std.specs.Prelude.{◌≡◌, ℕ, ◌<◌, true};
 ghost use Rattle.answers.specs.Answering.{reply_in, node_answer, arrow_answer};
 
 use crate::answers::{Answers, Replies};
@@ -7,10 +7,17 @@ use event::event::Event;
 
 impl Replies {
     /// No everywhere.
-    pub(crate) fn none() -> Replies
-        ensures { (outer inner : ℕ) → reply_in result.rows outer inner ≡ false }
-    {
+    pub(crate) fn none() -> Replies {
         Replies { rows: [0; 17] }
+    }
+
+    /// Yes at every position.
+    pub(crate) fn all() -> Replies
+        ensures { (outer inner : ℕ) → outer < 17 → inner < 17 → reply_in result.rows outer inner ≡ true }
+    {
+        Replies {
+            rows: [u32::MAX; 17],
+        }
     }
 
     /// The answer at the positions of a scope.
@@ -22,7 +29,7 @@ impl Replies {
     }
 }
 
-impl Answers {
+impl Answers<'_> {
     /// The event that they answer to.
     pub fn event(&self) -> Event
         ensures is_the_event { result ≡ self.now.event }

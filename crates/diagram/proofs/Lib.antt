@@ -2,6 +2,7 @@ pub mod Told
 pub mod Parents
 pub mod Placing
 pub mod Downward
+pub mod Owned
 pub mod Opens
 pub mod Widths
 pub mod Begins

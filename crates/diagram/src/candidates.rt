@@ -1,4 +1,4 @@
-ghost use Rattle.std.specs.Prelude.{◌≡◌};
+ghost use Rattle.std.specs.Prelude.{◌≡◌, ℕ, ◌≤◌, None};
 ghost use Rattle.rules.specs.Trees.{argument_of};
 ghost use Rattle.rules.specs.Candidates.{event_with};
 ghost use Rattle.diagram.specs.Carrying.{candidate_at};
@@ -47,6 +47,28 @@ fn event_with(label: u16, first: Option<u16>, second: Option<u16>) -> Event
 }
 
 impl Diagram {
+    /// A bound of the outer positions at which an arrow carries an event.
+    pub fn outer_positions(&self, arrow: usize) -> usize
+        ensures bounds_those_of_candidates { (outer inner : ℕ) → result ≤ outer → candidate_at self.now arrow outer inner ≡ None }
+        ensures is_17_at_most { result ≤ 17 }
+    {
+        let Some(arrow) = self.procedure().arrow(arrow) else {
+            return 0;
+        };
+        self.positions(self.binders(usize::from(arrow.node)).outer)
+    }
+
+    /// A bound of the inner ones.
+    pub fn inner_positions(&self, arrow: usize) -> usize
+        ensures bounds_those_of_candidates { (outer inner : ℕ) → result ≤ inner → candidate_at self.now arrow outer inner ≡ None }
+        ensures is_17_at_most { result ≤ 17 }
+    {
+        let Some(arrow) = self.procedure().arrow(arrow) else {
+            return 0;
+        };
+        self.positions(self.binders(usize::from(arrow.node)).inner)
+    }
+
     /// The event that an arrow carries under the variables at two positions, if there is such an arrow and they are positions of values.
     /// Each event that some arrow can carry comes at some arrow and some positions up to 16.
     pub fn candidate(&self, arrow: usize, outer: usize, inner: usize) -> Option<Event>

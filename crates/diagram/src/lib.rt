@@ -1,4 +1,4 @@
-//! An opened diagram's fixed part: a procedure whose types have their values, how wide each node is and which binders are above it;
+//! An opened diagram's fixed part: a procedure whose types have their values, how wide each node is, which binders are above it and which arrows it has, and which arrows have a label;
 //! the cells that a node begins with, and when they are finished.
 #![tactic(auto)]
 
@@ -8,9 +8,11 @@ pub mod binding;
 pub mod candidates;
 pub mod diagram;
 pub mod finishing;
+pub mod keyed_arrows;
 pub mod laws;
 pub mod measuring;
 pub mod opening;
+mod owning;
 pub mod part;
 pub mod plan;
 pub mod scope;

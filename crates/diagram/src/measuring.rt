@@ -8,6 +8,7 @@ ghost use Rattle.diagram.specs.Scopes.{binders_at, Placed, Rooted};
 
 use crate::binders::Binders;
 use crate::diagram::Diagram;
+use crate::keyed_arrows::Key;
 use crate::plan::Plan;
 use notation::node::{Node, States};
 
@@ -136,10 +137,14 @@ impl Diagram {
     {
         let widths = plan.widths()?;
         let binders = plan.binders();
+        let own = plan.arrows_by(Key::Node);
+        let labelled = plan.arrows_by(Key::Label);
         Ok(Diagram {
             plan,
             widths,
             binders,
+            own,
+            labelled,
         })
     }
 }

@@ -1,9 +1,10 @@
-ghost use Rattle.std.specs.Prelude.{◌≡◌, ◌<◌, ◌≤◌, length, Some};
+ghost use Rattle.std.specs.Prelude.{◌≡◌, ℕ, ◌<◌, ◌≤◌, length, Some, None};
 ghost use Rattle.std.specs.List.{slice_get};
 ghost use Rattle.rules.specs.Cells.{width};
 ghost use Rattle.diagram.specs.Valued.{values_of};
-ghost use Rattle.diagram.specs.Plans.{nodes_of, tree_at};
+ghost use Rattle.diagram.specs.Plans.{nodes_of, arrows_in, tree_at};
 ghost use Rattle.diagram.specs.Opening.{Opens, Above};
+ghost use Rattle.diagram.specs.Owning.{own_arrows, labelled_arrows};
 ghost use Rattle.diagram.specs.Scopes.{binders_at, variable_at, variables_at};
 
 use crate::binders::Binders;
@@ -55,6 +56,22 @@ impl Diagram {
         self.binders.get(i).copied().unwrap_or(Binders::NONE)
     }
 
+    /// The numbers of a node's arrows in the file, in order.
+    pub fn own_arrows(&self, node: usize) -> &[u8]
+        requires is_node { node < length (nodes_of self.now.plan) }
+        ensures tells_its_arrows { result.now ≡ own_arrows (arrows_in self.now.plan) node }
+    {
+        self.own.of(node)
+    }
+
+    /// The numbers of the arrows with a label, in order.
+    pub fn labelled_arrows(&self, label: usize) -> &[u8]
+        requires is_label { label < 256 }
+        ensures tells_the_arrows { result.now ≡ labelled_arrows (arrows_in self.now.plan) label }
+    {
+        self.labelled.of(label)
+    }
+
     /// What a variable is at a position of its type's values.
     fn variable(&self, ty: Option<u16>, position: usize) -> Option<Option<u16>>
         ensures { result ≡ variable_at (values_of self.now.plan.values) ty position }
@@ -65,6 +82,17 @@ impl Diagram {
                 let index = position.checked_sub(1)?;
                 Some(Some(*self.values(ty).get(index)?))
             }
+        }
+    }
+
+    /// A bound of a variable's positions: those of its type's values are counted from 1, and without a type it is at 0.
+    pub fn positions(&self, ty: Option<u16>) -> usize
+        ensures bounds_those_of_values { (k : ℕ) → result ≤ k → variable_at (values_of self.now.plan.values) ty k ≡ None }
+        ensures is_17_at_most { result ≤ 17 }
+    {
+        match ty {
+            None => 1,
+            Some(ty) => self.values(ty).len() + 1,
         }
     }
 

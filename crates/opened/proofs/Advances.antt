@@ -6,8 +6,7 @@ use Rattle.event.specs.declared.event.Event.{Event}
 use Rattle.host.specs.Meanings.{Meaning}
 use Rattle.ordered.specs.Order.{Rising}
 use Rattle.ordered.specs.Held.{held, room}
-use Rattle.ordered.specs.declared.list.Ordered.{Ordered}
-use Rattle.row.specs.Rows.{row_rank}
+use Rattle.row.specs.Rows.{row_rank, OrderedRows}
 use Rattle.row.specs.declared.row.Row.{Row}
 use Rattle.rules.specs.Trees.{Tree, Guards, no_variables}
 use Rattle.rules.specs.Cells.{Cells, fit, width}
@@ -96,7 +95,7 @@ module _ (o : Opened) (now : Meaning) (e : Event) (a : Answers) (event : a.event
   next-is : next ≡ successors (tree_of_opened o) guards e (firsts (width (tree_of_opened o)) (rows_in o))
   next-is = ap (λ (n : ℕ). successors (tree_of_opened o) guards e (firsts n (rows_in o))) (width-is o)
 
-  module _ (before after : Ordered Row) (none : held before ≡ []) where
+  module _ (before after : OrderedRows) (none : held before ≡ []) where
     -- an empty list rises, and so what is added to it is known
     rises : Rising row_rank (held before)
     rises = subst (λ (l : List Row). Rising row_rank l) (sym none) tt

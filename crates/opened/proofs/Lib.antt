@@ -1,4 +1,5 @@
 pub mod Advances
+pub mod Copied
 pub mod Few
 pub mod Filled
 pub mod Finishes
@@ -12,4 +13,6 @@ pub mod Openings
 pub mod Planned
 pub mod Putting
 pub mod Rising
+pub mod Taken
 pub mod Trees
+pub mod Unguarded

@@ -14,8 +14,7 @@ use Rattle.procedure.specs.Drawings.{Drawing}
 use Rattle.procedure.specs.Scopes.{arrow_placed}
 use Rattle.procedure.specs.Sound.{sound, arrow_sound}
 use Rattle.ordered.specs.Held.{held, room}
-use Rattle.ordered.specs.declared.list.Ordered.{Ordered}
-use Rattle.event.specs.Forms.{InForm}
+use Rattle.event.specs.Forms.{InForm, OrderedEvents}
 use Rattle.event.specs.declared.event.Event.{Event}
 use Rattle.host.specs.Meanings.{Meaning}
 use Rattle.host.specs.declared.variables.Variables.{Variables}
@@ -92,13 +91,13 @@ module _ (o : Opened) (now : Meaning) where
       ((c.arrow, c.is_arrow, (c.outer, c.outer_is_position, (c.inner, c.inner_is_position, c.carries))), some-move (tree_of_opened o) (answers_after now [] e) e (states_in o.held) w.1.0 w.1.2.0 w.1.1 w.1.2.1)
 
   -- what was listed is the menu
-  whole-menu : (out : Ordered Event) (short : Bool) (l : Listed Moving [] out short) → l.whole ≡ menu_events (tree_of_opened o) (states_in o.held) now
+  whole-menu : (out : OrderedEvents) (short : Bool) (l : Listed Moving [] out short) → l.whole ≡ menu_events (tree_of_opened o) (states_in o.held) now
   whole-menu out short l =
       menu-alone (tree_of_opened o) (states_in o.held) now l.whole (l.puts.rises tt)
       (λ e i. ⊎_elim (λ j. absurd (Memᴰ.not-nil j)) (λ m. moving-in e m) (l.puts.only e i))
       (λ e i. l.puts.all e (inr (moving-out e i)))
 
-  module _ (out : Ordered Event) (short : Bool) (l : Listed Moving [] out short) where
+  module _ (out : OrderedEvents) (short : Bool) (l : Listed Moving [] out short) where
     pub first-menu : HoldsFirst (menu_events (tree_of_opened o) (states_in o.held) now) out
     first-menu = subst (λ (m : List Event). HoldsFirst m out) (whole-menu out short l) l.holds
 
@@ -106,7 +105,7 @@ module _ (o : Opened) (now : Meaning) where
     short-menu = subst (λ (m : List Event). short ≡ nat_lt (room out) (length m)) (whole-menu out short l) l.says
 
 -- where a list over lent places holds the first of some events, and later places are as before, these were written over the places
-pub written : (menu before : List Event) (fresh out : Ordered Event) → fresh.places.now ≡ before → Keeps fresh out → HoldsFirst menu out → out.places.now ≡ written_over menu before
+pub written : (menu before : List Event) (fresh out : OrderedEvents) → fresh.places.now ≡ before → Keeps fresh out → HoldsFirst menu out → out.places.now ≡ written_over menu before
 written menu before fresh out lent keeps first =
     let u = out.used in
     let n : length (held out) ≡ u = length-take-le u out.places.now out.fits in
@@ -121,7 +120,7 @@ written menu before fresh out lent keeps first =
     sym (take-append-drop u out.places.now) ∙ ap₂ (λ (a b : List Event). a ++ b) (first ∙ ap (λ (j : ℕ). take j menu) r) (later ∙ rest)
 
 -- what is answered where some had no room, and where all had
-module _ (menu before : List Event) (fresh out : Ordered Event) (lent : fresh.places.now ≡ before) (keeps : Keeps fresh out) (first : HoldsFirst menu out) where
+module _ (menu before : List Event) (fresh out : OrderedEvents) (lent : fresh.places.now ≡ before) (keeps : Keeps fresh out) (first : HoldsFirst menu out) where
   pub listed-many : true ≡ nat_lt (room out) (length menu) → Err (too_short (length before)) ≡ menu_answer (length before) menu
   listed-many short =
       let r : room out ≡ length before = keeps.room ∙ ap length lent in

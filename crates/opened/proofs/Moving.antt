@@ -13,11 +13,14 @@ use Rattle.rules.specs.Candidates.{has_one}
 use Rattle.rules.proofs.Fits.{fits}
 use Rattle.motions.specs.Ways.{Any}
 use Rattle.diagram.specs.Plans.{nodes_of}
-use Rattle.diagram.specs.Parts.{last_part, part_width}
+use Rattle.diagram.specs.Valued.{values_of}
+use Rattle.diagram.specs.Scopes.{variables_at}
+use Rattle.diagram.specs.Parts.{last_part, part_width, InPlace}
 use Rattle.diagram.specs.declared.part.Part.{Part}
 use Rattle.answers.specs.declared.answers.Answers.{Answers}
 use Rattle.search.specs.Searching.{successors}
 use Rattle.opened.specs.Opens.{tree_of_opened}
+use Rattle.opened.proofs.Advances.{root-last, root-short}
 use Rattle.opened.specs.declared.opened.Opened.{Opened}
 
 -- a test of what f gives
@@ -36,6 +39,17 @@ listed-ways false P (r ∷ l) to fro d = d.1 (r, to r (Memᴰ.head refl))
 root-is : (n : ℕ) (p : Part) → last_part n ≡ Some p → p ≡ record { node = n - 1; at = 0; scope = record { outer = 0; inner = 0; variables = no_variables } }
 root-is zero p e = absurd (none-some p e)
 root-is (suc n) p e = let q : record { node = n; at = 0; scope = record { outer = 0; inner = 0; variables = no_variables } } ≡ p = cc in let j : suc n - 1 ≡ n = omega arith in rw j (sym q)
+
+-- it is within a row
+pub root-in-place : (o : Opened) → InPlace o.diagram o.root
+root-in-place o =
+    let n = length (nodes_of o.diagram.plan) in
+    subst (λ (p : Part). InPlace o.diagram p) (sym (root-last o).1)
+    (record {
+      is_node = omega (arith, (root-last o).0);
+      is_inside = omega (arith, root-short o);
+      suits = ap (λ b. variables_at (values_of o.diagram.plan.values) b 0 0) o.diagram.rooted;
+    })
 
 -- whether a row's first cells have a successor by the rules
 pub root-decides : (o : Opened) (a : Answers) (g : Guards) (row : Row) (answer : Bool) → Decides answer (Any (successors o.diagram a g o.root row))

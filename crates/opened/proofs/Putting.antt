@@ -5,10 +5,9 @@ use Rattle.std.proofs.lemmas.Bool.{cases_lt}
 use Rattle.std.proofs.lemmas.Option.{none-some}
 use mathlib.Core.List.Memᴰ
 use Rattle.ordered.specs.Held.{held, room, places_from}
-use Rattle.ordered.specs.declared.list.Ordered.{Ordered}
 use Rattle.ordered.specs.Order.{by_rank, insert_ordered, kept}
 use Rattle.ordered.proofs.Laws.{rising-insert, in-insert, in-back}
-use Rattle.event.specs.Forms.{event_rank}
+use Rattle.event.specs.Forms.{event_rank, OrderedEvents}
 use Rattle.event.specs.Laws.{event_order}
 use Rattle.event.specs.declared.event.Event.{Event}
 use Rattle.law.specs.Counting.{ListsExactly}
@@ -95,14 +94,14 @@ module _ (n : ℕ) (l m : List Event) (x : Event) (is : m ≡ kept event_rank n 
       subst (λ (k : List Event). PutIn (λ e. e ≡ x) l k) (sym (is ∙ take_all n (insert_ordered event_rank l x) few)) (put-one l x)
 
 -- a list that is added to
-pub keep-same : (o : Ordered Event) → Keeps o o
+pub keep-same : (o : OrderedEvents) → Keeps o o
 keep-same o = record { room = refl; grows = omega arith; later = λ n h. refl }
 
 -- by an insertion
-pub keep-next : (o m : Ordered Event) → room m ≡ room o → length (held o) ≤ length (held m) → ((n : ℕ) → length (held m) ≤ n → places_from n m ≡ places_from n o) → Keeps o m
+pub keep-next : (o m : OrderedEvents) → room m ≡ room o → length (held o) ≤ length (held m) → ((n : ℕ) → length (held m) ≤ n → places_from n m ≡ places_from n o) → Keeps o m
 keep-next o m room grows later = record { room = room; grows = grows; later = later }
 
-pub keep-more : (o m k : Ordered Event) → Keeps o m → Keeps m k → Keeps o k
+pub keep-more : (o m k : OrderedEvents) → Keeps o m → Keeps m k → Keeps o k
 keep-more o m k p q = record {
   room = q.room ∙ p.room;
   grows = omega (arith, p.grows, q.grows);
@@ -128,6 +127,14 @@ module _ (d : Diagram) (k outer n : ℕ) where
       (λ e z. ⊎_elim (λ c. inl c) (λ s. let t : e ≡ x = cc in inr t) (carried-last (Some x) is e z))
       carried-still (λ e y. (n, omega arith, is ∙ ap Some (sym y))) p q
 
+-- past a bound of its inner positions it carries nothing
+pub put-inner : (d : Diagram) (k outer n i : ℕ) (l m : List Event) → ((outer inner : ℕ) → n ≤ inner → candidate_at d k outer inner ≡ None) → n ≤ i → i ≤ 17 → PutIn (CarriedAt d k outer i) l m → PutIn (CarriedAt d k outer 17) l m
+put-inner d k outer n i l m none h w p =
+    put-alike _ _ l m
+    (λ e z. ⊎_elim (λ lt. (z.0, lt, z.2)) (λ ge. let no : candidate_at d k outer z.0 ≡ None = none outer z.0 (omega arith) in absurd (none-some e (sym no ∙ z.2))) (cases_lt z.0 i))
+    (λ e z. (z.0, omega (arith, z.1), z.2))
+    p
+
 -- what it carries at outer positions, one after the other
 pub below-last : (d : Diagram) (k n : ℕ) (e : Event) → CarriedBelow d k (n + 1) e → CarriedBelow d k n e ⊎ CarriedAt d k n 17 e
 below-last d k n e (outer, h, c) =
@@ -135,6 +142,14 @@ below-last d k n e (outer, h, c) =
 
 pub put-outer : (d : Diagram) (k n : ℕ) (l m j : List Event) → PutIn (CarriedBelow d k n) l m → PutIn (CarriedAt d k n 17) m j → PutIn (CarriedBelow d k (n + 1)) l j
 put-outer d k n l m j p q = put-more _ _ _ l m j (below-last d k n) (λ e c. (c.0, omega (arith, c.1), c.2)) (λ e c. (n, omega arith, c)) p q
+
+-- past a bound of its outer positions it carries nothing
+pub put-outers : (d : Diagram) (k n i : ℕ) (l m : List Event) → ((outer inner : ℕ) → n ≤ outer → candidate_at d k outer inner ≡ None) → n ≤ i → i ≤ 17 → PutIn (CarriedBelow d k i) l m → PutIn (CarriedBelow d k 17) l m
+put-outers d k n i l m none h w p =
+    put-alike _ _ l m
+    (λ e z. ⊎_elim (λ lt. (z.0, lt, z.2)) (λ ge. let no : candidate_at d k z.0 z.2.0 ≡ None = none z.0 z.2.0 (omega arith) in absurd (none-some e (sym no ∙ z.2.2))) (cases_lt z.0 i))
+    (λ e z. (z.0, omega (arith, z.1), z.2))
+    p
 
 -- what was put into nothing is exactly what is held
 pub put-exactly : (X : Event → Type 0) (l m : List Event) → l ≡ [] → PutIn X l m → ListsExactly event_rank X m

@@ -3,8 +3,7 @@ use Rattle.std.specs.Prelude.{◌≡◌, ℕ, ◌<◌, ◌≤◌, ◌⊎◌, Boo
 use mathlib.Core.List.{Memᴰ}
 use Rattle.ordered.specs.Order.{Rising}
 use Rattle.ordered.specs.Held.{held, room, places_from}
-use Rattle.ordered.specs.declared.list.Ordered.{Ordered}
-use Rattle.event.specs.Forms.{event_rank}
+use Rattle.event.specs.Forms.{event_rank, OrderedEvents}
 use Rattle.event.specs.declared.event.Event.{Event}
 use Rattle.host.specs.Meanings.{Meaning}
 use Rattle.rules.specs.Candidates.{some_moves}
@@ -22,17 +21,17 @@ pub record PutIn (X : Event → Type 0) (before after : List Event) : Type 0 whe
   pub all : (e : Event) → Memᴰ e before ⊎ X e → Memᴰ e after
 
 -- what stays of a list over lent places that is added to: its room, what it holds at least, and what stands past what it holds
-pub record Keeps (before after : Ordered Event) : Type 0 where
+pub record Keeps (before after : OrderedEvents) : Type 0 where
   pub room : room after ≡ room before
   pub grows : length (held before) ≤ length (held after)
   pub later : (n : ℕ) → length (held after) ≤ n → places_from n after ≡ places_from n before
 
 -- a list holds the first of some events, as many as it has room for
-abbrev pub HoldsFirst : List Event → Ordered Event → Type 0
+abbrev pub HoldsFirst : List Event → OrderedEvents → Type 0
 HoldsFirst whole o = held o ≡ take (room o) whole
 
 -- the events of X were put to some others, a list holds the first of all these, and the answer says whether it has no room for some
-pub record Listed (X : Event → Type 0) (others : List Event) (out : Ordered Event) (short : Bool) : Type 0 where
+pub record Listed (X : Event → Type 0) (others : List Event) (out : OrderedEvents) (short : Bool) : Type 0 where
   pub whole : List Event
   pub puts : PutIn X others whole
   pub holds : HoldsFirst whole out

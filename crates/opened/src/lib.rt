@@ -8,4 +8,6 @@ mod holding;
 mod listing;
 pub mod opened;
 mod opening;
+mod replacing;
+mod tables;
 mod telling;

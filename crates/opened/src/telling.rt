@@ -1,27 +1,27 @@
-ghost use Rattle.std.specs.Prelude.{◌≡◌};
+ghost use Rattle.std.specs.Prelude.{◌≡◌, true};
 ghost use Rattle.rules.specs.Cells.{width};
 ghost use Rattle.rules.specs.Ends.{some_finished};
-ghost use Rattle.opened.specs.Opens.{with_of, tree_of_opened};
+ghost use Rattle.answers.specs.Answering.{Enough};
+ghost use Rattle.opened.specs.Opens.{tree_of_opened};
 ghost use Rattle.opened.specs.States.{states_in};
 
 use crate::held::Held;
 use crate::opened::Opened;
 
 impl Opened {
+    /// Whether 8 entries for nodes and 24 for arrows are enough for the diagram.
+    pub(crate) fn is_small(&self) -> bool
+        ensures says_enough { result ≡ true → Enough 8 24 self.now.diagram }
+    {
+        let procedure = self.diagram.procedure();
+        procedure.node_count() <= 8 && procedure.arrow_count() <= 24
+    }
+
     /// The states that it holds.
     pub fn held(&self) -> &Held
         ensures is_what_it_holds { result.now ≡ self.now.held }
     {
         &self.held
-    }
-
-    /// Holds other states in place of these.
-    pub fn hold(&mut self, next: Held)
-        requires has_the_width { next.width ≡ self.old.held.width }
-        ensures holds_them { self.new.held ≡ next }
-        ensures keeps_what_it_was_opened_with { with_of self.new ≡ with_of self.old }
-    {
-        self.held = next;
     }
 
     /// How many cells the root takes.

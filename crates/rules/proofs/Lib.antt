@@ -9,3 +9,4 @@ pub mod Candidates
 pub mod Points
 pub mod Joins
 pub mod Shown
+pub mod Willing

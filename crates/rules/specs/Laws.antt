@@ -224,6 +224,12 @@ QuantifiedChoiceFinished =
 abbrev pub SuccessorIsCarried : Type 0
 SuccessorIsCarried = (t : Tree) (g : Guards) (e : Event) (v : Variables) (r r' : Cells) → Step t g e v r r' → Carried t e v
 
+-- where guards say yes to more, whatever moved still moves
+abbrev pub MoreGuardsMoveMore : Type 0
+MoreGuardsMoveMore =
+    (t : Tree) (g g' : Guards) (e : Event) (v : Variables) (r r' : Cells)
+    → ((guard : ℕ) (w : Variables) → g guard w ≡ true → g' guard w ≡ true) → Step t g e v r r' → Step t g' e v r r'
+
 -- a carried event in form is a candidate
 abbrev pub CarriedIsCandidate : Type 0
 CarriedIsCandidate = (t : Tree) (e : Event) (v : Variables) → Sound t → InForm e → Carried t e v → Memᴰ e (candidates t v)

@@ -2,7 +2,7 @@ ghost use Rattle.rules.specs.Laws.{ListedIsDerived, DerivedIsListed, ChainsBegin
 ghost use Rattle.rules.specs.Laws.{InitialHasWidth, SuccessorHasWidth, EndHasWidth, ProceduresAreSound, InitialInRange, SuccessorInRange, EndInRange};
 ghost use Rattle.rules.specs.Laws.{BothSidesMove, OneSideMoves, AllInstancesMove, OneInstanceMovesAlone, NoInstanceNoMove, BothSidesFinish, EveryInstanceFinishes};
 ghost use Rattle.rules.specs.Laws.{UnmarkedUnfinished, ShallowFinished, DeepFinished, SequenceFinished, GuardAskedOnce, GuardFinished, ClosureStarts, ClosureRestartsOnlyFinished, FinishedClosureRestarts, ElementaryIsNotWaitedFor, ChoiceFinished, QuantifiedChoiceFinished};
-ghost use Rattle.rules.specs.Laws.{SuccessorIsCarried, CarriedIsCandidate, MenuIsExact, MenuGoesOn, MenuRises, TreesUnfold, ChildrenAreBelow};
+ghost use Rattle.rules.specs.Laws.{SuccessorIsCarried, MoreGuardsMoveMore, CarriedIsCandidate, MenuIsExact, MenuGoesOn, MenuRises, TreesUnfold, ChildrenAreBelow};
 
 /// The computed moves are exactly those that the rules derive.
 pub fn moves_are_adequate()
@@ -68,6 +68,11 @@ pub fn readings_are_settled()
     ensures an_elementary_state_is_not_waited_for { ElementaryIsNotWaitedFor }
     ensures a_choice_not_begun_is_finished_by_either_side { ChoiceFinished }
     ensures a_quantified_choice_not_begun_is_finished_as_its_body_begins { QuantifiedChoiceFinished }
+{}
+
+/// A guard can only keep an event from moving something.
+pub fn guards_only_hinder()
+    ensures where_they_say_yes_to_more_what_moved_still_moves { MoreGuardsMoveMore }
 {}
 
 /// Every event that can move a diagram comes from one of its arrows, so a menu can be complete.

@@ -108,8 +108,7 @@ module _ (run : Run) (now : Meaning) (o : Opened) (e : Event) (is : run.opened �
       → Err f ≡ offer_answer (tree_in run) (ceiling_in run) (states run) now e
   answered-refused f h = answered-next (tree_of_opened o) o.ceiling (states_in o.held) now e (Some f) form h ∙ opened-answer run now o e is
 
-  pub answered-taken : (n : ℕ) (next : List Cells) → refusal (next_asks o.ceiling (states_in o.held) (next_states (tree_of_opened o) (states_in o.held) now e)) ≡ None
-      → next ≡ next_states (tree_of_opened o) (states_in o.held) now e → n ≡ length next
+  pub answered-taken : (n : ℕ) → refusal (next_asks o.ceiling (states_in o.held) (next_states (tree_of_opened o) (states_in o.held) now e)) ≡ None
+      → n ≡ length (next_states (tree_of_opened o) (states_in o.held) now e)
       → Ok n ≡ offer_answer (tree_in run) (ceiling_in run) (states run) now e
-  answered-taken n next h same count =
-      ap {B = Result ℕ Fault} Ok (count ∙ ap length same) ∙ answered-next (tree_of_opened o) o.ceiling (states_in o.held) now e None form h ∙ opened-answer run now o e is
+  answered-taken n h count = ap {B = Result ℕ Fault} Ok count ∙ answered-next (tree_of_opened o) o.ceiling (states_in o.held) now e None form h ∙ opened-answer run now o e is

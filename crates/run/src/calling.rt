@@ -69,9 +69,7 @@ impl Run {
         let Some(opened) = &mut self.opened else {
             return Err(Question::SuccessorExists.at(0));
         };
-        let next = opened.next(host, event)?;
-        let count = next.len();
-        opened.hold(next);
+        let count = opened.advance(host, event)?;
         host.tell(event);
         Ok(count)
     }

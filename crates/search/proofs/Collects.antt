@@ -15,7 +15,7 @@ use Rattle.notation.specs.declared.node.Node.TheVariants.{Guard}
 use Rattle.diagram.specs.Valued.{values_of}
 use Rattle.diagram.specs.Plans.{nodes_of, tree_at}
 use Rattle.diagram.specs.Scopes.{binders_at, Suits}
-use Rattle.answers.specs.Answering.{Agrees, node_answer, guard_of_node, answer_under}
+use Rattle.answers.specs.Answering.{Agrees, node_answer}
 use Rattle.diagram.specs.Parts.{part_width, InPlace}
 use Rattle.search.specs.Searching.{cells_of, Behind, Child, Reached, PartReached, moves_from, starts, successors}
 use Rattle.diagram.specs.declared.scope.Scope.{Scope}
@@ -83,7 +83,7 @@ first-false tag x y e f = at (tag == 0) refl
 -- what a guard at a part answered
 pub guard-answered : (d : Diagram) (a : Answers) (g : Guards) (p : Part) (number body : ℕ) → Agrees d a g → slice_get (nodes_of d.plan) p.node ≡ Some (Guard number body) → Suits (values_of d.plan.values) (binders_at d.binders p.node) p.scope
     → node_answer a p.node p.scope.outer p.scope.inner ≡ g number p.scope.variables
-guard-answered d a g p number body h is suits = h.nodes p.node p.scope.outer p.scope.inner ∙ (λ i. answer_under g (guard_of_node (is i)) (suits i))
+guard-answered d a g p number body h is suits = h.nodes p.node number body is p.scope.outer p.scope.inner p.scope.variables suits tt
 
 -- ---- the rows that a part with a tag reaches
 

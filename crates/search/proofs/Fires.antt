@@ -10,9 +10,8 @@ use Rattle.notation.specs.declared.node.State.{State}
 use Rattle.notation.specs.declared.node.States.{States}
 use Rattle.ordered.specs.Held.{held}
 use Rattle.ordered.specs.Order.{Rising}
-use Rattle.ordered.specs.declared.list.Ordered.{Ordered}
 use Rattle.row.specs.Laws.{same-row}
-use Rattle.row.specs.Rows.{row_rank}
+use Rattle.row.specs.Rows.{row_rank, OrderedRows}
 use Rattle.row.specs.declared.row.Row.{Row}
 use Rattle.rules.specs.Trees.{Guards}
 use Rattle.rules.specs.Cells.{width, initial, tagged}
@@ -102,7 +101,7 @@ module _ (ws : List Arrow) (Y : Arrow → Row → Type 0) where
           (Memᴰ.append_cases (take n ws) (subst (λ (l : List Arrow). Memᴰ f.0 l) one-more f.1))
 
   -- a loop over the arrows: the next one
-  pub added-fired : {E : Type 0} (n : ℕ) (w : Arrow) (l m l' : Ordered Row) (v : Result (Unit {0}) E)
+  pub added-fired : {E : Type 0} (n : ℕ) (w : Arrow) (l m l' : OrderedRows) (v : Result (Unit {0}) E)
       → slice_get ws n ≡ Some w → Stays l m → (Rising row_rank (held l) → Gained (First n) (held l) (held m)) → Added (Y w) m l' v
       → Added (First (n + 1)) l l' v
   added-fired n w l m l' v e k b f =

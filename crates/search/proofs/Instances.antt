@@ -5,8 +5,7 @@ use Rattle.std.proofs.lemmas.Option.{none-some, slice_get_read, slice_get_past}
 use mathlib.Core.List.{Memᴰ}
 use Rattle.ordered.specs.Held.{held, room}
 use Rattle.ordered.specs.Order.{Rising}
-use Rattle.ordered.specs.declared.list.Ordered.{Ordered}
-use Rattle.row.specs.Rows.{row_rank}
+use Rattle.row.specs.Rows.{row_rank, OrderedRows}
 use Rattle.row.specs.Laws.{same-row}
 use Rattle.row.specs.declared.row.Row.{Row}
 use Rattle.rules.specs.Trees.{Tree, Guards, quantified_synchronisation, bound}
@@ -101,6 +100,19 @@ past d b = record { node = b.node; at = b.at + part_width d b; scope = b.scope }
 pub past-body : (d : Diagram) (b next : Part) (n i : ℕ) → i ≡ b.node → n ≡ width (tree_at d.plan i) → next ≡ record { node = b.node; at = b.at + n; scope = b.scope } → next ≡ past d b
 past-body d b next n i e f is = is ∙ ap (λ (m : ℕ). let q : Part = record { node = b.node; at = b.at + m; scope = b.scope } in q) (f ∙ ap (λ (j : ℕ). width (tree_at d.plan j)) e)
 
+-- it is bound as the body is, and the later instances are within a row, if all are
+pub past-bound : (d : Diagram) (part : Part) (over : ℕ) (b next : Part) → next ≡ past d b → Bound d part over b → Bound d part over next
+past-bound d part over b next follows bd =
+    subst (λ (q : Part). Bound d part over q) (sym follows)
+    (record { is_node = bd.is_node; is_below = bd.is_below; above = bd.above; suits = bd.suits; same_scope = bd.same_scope })
+
+pub past-inside : (d : Diagram) (over : ℕ) (b next : Part) (k x : ℕ) → next ≡ past d b → slice_get (values_of d.plan.values over) k ≡ Some x → InstancesInside d over b k → InstancesInside d over next (k + 1)
+past-inside d over b next k x follows some inside =
+    subst (λ (q : Part). InstancesInside d over q (k + 1)) (sym follows)
+    (let w = part_width d b in
+    let e : times (values_from d over k) w ≡ w + times (values_from d over (k + 1)) w = ap (λ (l : List ℕ). times l w) (drop-at (values_of d.plan.values over) k x some) in
+    omega arith)
+
 -- an instance of a body, under its own value
 pub record Instance (b p : Part) (x : ℕ) : Type 0 where
   pub node : p.node ≡ b.node
@@ -125,7 +137,7 @@ module _ (d : Diagram) (a : Answers) (g : Guards) (over : ℕ) (b : Part) (k : �
     pub none-can : Decides true (Any (all_move d a g over b k r))
     none-can = (λ t. subst (λ (xs : List ℕ). Any (AllMove w B xs (part_at (times xs w) r.cells b.at))) (sym ends) ([], (all-none w B []).fro [] refl), λ y. refl)
 
-    pub none-moves : (o : Ordered Row) → Rising row_rank (held o) → Gained (InstancesReached d over b k r (one_moves d a g over b k r)) (held o) (held o)
+    pub none-moves : (o : OrderedRows) → Rising row_rank (held o) → Gained (InstancesReached d over b k r (one_moves d a g over b k r)) (held o) (held o)
     none-moves o = added-none _ o
         (subst (λ (xs : List ℕ). (y : Row) → Framed r.cells b.at (times xs w) (OneMoves w B xs (part_at (times xs w) r.cells b.at)) y → ⊥) (sym ends) (λ y f. one-none w B [] f.0 f.1))
 
@@ -135,7 +147,7 @@ module _ (d : Diagram) (a : Answers) (g : Guards) (over : ℕ) (b : Part) (k : �
       fro = λ y f. same-row y r (f.2 ∙ ap (framed r.cells b.at 0) ((all-none w B []).to f.0 f.1) ∙ frame-none r.cells b.at);
     }
 
-    pub none-added : {E : Type 0} (o o' : Ordered Row) (res : Result (Unit {0}) E) → Added (λ y. y ≡ r) o o' res → Added (InstancesReached d over b k r (all_move d a g over b k r)) o o' res
+    pub none-added : {E : Type 0} (o o' : OrderedRows) (res : Result (Unit {0}) E) → Added (λ y. y ≡ r) o o' res → Added (InstancesReached d over b k r (all_move d a g over b k r)) o o' res
     none-added o o' res x =
         subst (λ (xs : List ℕ). Added (Framed r.cells b.at (times xs w) (AllMove w B xs (part_at (times xs w) r.cells b.at))) o o' res) (sym ends)
         (added-alike (λ y. y ≡ r) (Framed r.cells b.at 0 (AllMove w B [] [])) o o' res itself x)
@@ -187,7 +199,7 @@ module _ (d : Diagram) (a : Answers) (g : Guards) (over : ℕ) (b : Part) (k : �
       abbrev One : Row → Type 0
       One = InstancesReached d over b k r (one_moves d a g over b k r)
 
-      abbrev AllOfEach : Ordered Row → Row → Type 0
+      abbrev AllOfEach : OrderedRows → Row → Type 0
       AllOfEach s = FromEach (held s) (λ y z. InstancesReached d over next (k + 1) y (all_move d a g over next (k + 1) y) z)
 
       room-inside : b.at + (w + n) ≤ 48
@@ -196,11 +208,11 @@ module _ (d : Diagram) (a : Answers) (g : Guards) (over : ℕ) (b : Part) (k : �
       can-rest : Any (all_move d a g over b k r) → Any (Rest r)
       can-rest c = (any-joined-back First (Rest r) (any-alike (all_move d a g over b k r) (Joined First (Rest r)) (all-is r) c)).1
 
-      first-gained : (s s' : Ordered Row) → (Rising row_rank (held s) → Gained (Reached d a g p r) (held s) (held s')) → Rising row_rank (held s) → Gained (Framed r.cells b.at w First) (held s) (held s')
+      first-gained : (s s' : OrderedRows) → (Rising row_rank (held s) → Gained (Reached d a g p r) (held s) (held s')) → Rising row_rank (held s) → Gained (Framed r.cells b.at w First) (held s) (held s')
       first-gained s s' c = subst (λ (X : Row → Type 0). Rising row_rank (held s) → Gained X (held s) (held s')) (reached-alike r) c
 
       -- where the first one has moved, the others can move if they could
-      pub still-can : (s s' : Ordered Row) → held s ≡ [] → (Rising row_rank (held s) → Gained (Reached d a g p r) (held s) (held s')) → Any (all_move d a g over b k r)
+      pub still-can : (s s' : OrderedRows) → held s ≡ [] → (Rising row_rank (held s) → Gained (Reached d a g p r) (held s) (held s')) → Any (all_move d a g over b k r)
           → (y : Row) → Memᴰ y (held s') → Any (all_move d a g over next (k + 1) y)
       still-can s s' e c can y i =
           let f = first-only (Framed r.cells b.at w First) (held s') (gained-first (Framed r.cells b.at w First) s s' e (first-gained s s' c)) y i in
@@ -212,14 +224,14 @@ module _ (d : Diagram) (a : Answers) (g : Guards) (over : ℕ) (b : Part) (k : �
           subst (λ (l : List ℕ). AlikeRows (Framed r.cells b.at (w + n) (Joined First (Rest r))) (Framed r.cells b.at (times l w) (AllMove w B l (part_at (times l w) r.cells b.at)))) (sym splits)
           (framed-alike r.cells b.at (w + n) (Joined First (Rest r)) (AllMove w B (x ∷ xs) (part_at (w + n) r.cells b.at)) (alike-sym _ _ (all-parts w B x xs r.cells b.at)))
 
-      pub all-added : {E : Type 0} (o o' s s' : Ordered Row) (res : Result (Unit {0}) E) → held s ≡ [] → (Rising row_rank (held s) → Gained (Reached d a g p r) (held s) (held s'))
+      pub all-added : {E : Type 0} (o o' s s' : OrderedRows) (res : Result (Unit {0}) E) → held s ≡ [] → (Rising row_rank (held s) → Gained (Reached d a g p r) (held s) (held s'))
           → Added (AllOfEach s') o o' res → Added All o o' res
       all-added o o' s s' res e c z =
           added-alike (Framed r.cells b.at (w + n) (Joined First (Rest r))) All o o' res all-rows
           (both-added r.cells b.at w n First (AllMove w B xs) r.full room-inside (long-first r) o o' s s' res e (first-gained s s' c)
           (subst (λ (q : Part). Added (FromEach (held s') (λ y z. InstancesReached d over q (k + 1) y (all_move d a g over q (k + 1) y) z)) o o' res) follows z))
 
-      pub all-over : (o s : Ordered Row) → room o ≤ room s → held s ≡ [] → Any (all_move d a g over b k r) → (Rising row_rank (held s) → Exceeds (Reached d a g p r) (room s) (held s)) → Exceeds All (room o) (held o)
+      pub all-over : (o s : OrderedRows) → room o ≤ room s → held s ≡ [] → Any (all_move d a g over b k r) → (Rising row_rank (held s) → Exceeds (Reached d a g p r) (room s) (held s)) → Exceeds All (room o) (held o)
       all-over o s le e can c =
           adds-overflow (Framed r.cells b.at (w + n) (Joined First (Rest r))) All (room o) (held o)
           (both-over r.cells b.at w n First (AllMove w B xs) r.full room-inside (long-first r) o s le e
@@ -234,12 +246,12 @@ module _ (d : Diagram) (a : Answers) (g : Guards) (over : ℕ) (b : Part) (k : �
           (subst (λ (l : List ℕ). AlikeRows (EitherRow (Framed r.cells b.at w First) (InstancesReached d over (past d b) (k + 1) r (one_moves d a g over (past d b) (k + 1) r))) (Framed r.cells b.at (times l w) (OneMoves w B l (part_at (times l w) r.cells b.at)))) (sym splits)
           (one-rows w B x xs r.cells b.at (omega (arith, r.full, room-inside)))))
 
-      pub one-added : {E : Type 0} (o m o' : Ordered Row) (res : Result (Unit {0}) E) → Stays o m → (Rising row_rank (held o) → Gained (Reached d a g p r) (held o) (held m))
+      pub one-added : {E : Type 0} (o m o' : OrderedRows) (res : Result (Unit {0}) E) → Stays o m → (Rising row_rank (held o) → Gained (Reached d a g p r) (held o) (held m))
           → Added (InstancesReached d over next (k + 1) r (one_moves d a g over next (k + 1) r)) m o' res → Added One o o' res
       one-added o m o' res s c z =
           added-alike _ One o o' res one-of-all (added-then (Reached d a g p r) (InstancesReached d over next (k + 1) r (one_moves d a g over next (k + 1) r)) o m o' res s c z)
 
-      pub one-over : (o : Ordered Row) → (Rising row_rank (held o) → Exceeds (Reached d a g p r) (room o) (held o)) → Rising row_rank (held o) → Exceeds One (room o) (held o)
+      pub one-over : (o : OrderedRows) → (Rising row_rank (held o) → Exceeds (Reached d a g p r) (room o) (held o)) → Rising row_rank (held o) → Exceeds One (room o) (held o)
       one-over o c h = adds-overflow (Reached d a g p r) One (room o) (held o) (c h) (λ y f. one-of-all.to y (inl f))
 
 -- an instance is in place, if the instances are within a row
@@ -285,34 +297,51 @@ module _ (d : Diagram) (a : Answers) (g : Guards) (over : ℕ) (p b : Part) (lab
       (subst (λ (i : ℕ). AlikeRows (Framed r.cells i (times vs (width body)) P) (Framed r.cells p.at (times vs (width body)) (Moves Whole))) (sym first)
       (framed-alike r.cells p.at (times vs (width body)) P (Moves Whole) (alike-sym _ _ e)))
 
-  pub each-alone : {E : Type 0} (o o' : Ordered Row) (res : Result (Unit {0}) E) → in_set a.event.label labels ≡ false
+  pub each-alone : {E : Type 0} (o o' : OrderedRows) (res : Result (Unit {0}) E) → in_set a.event.label labels ≡ false
       → Added (InstancesReached d over b 0 r (one_moves d a g over b 0 r)) o o' res → Added (Reached d a g p r) o o' res
   each-alone o o' res lone x =
       added-alike _ (Reached d a g p r) o o' res (of-instances (one_moves d a g over b 0 r) (one-arm g a.event p.scope.variables r.cells p.at vs labels body b.scope.variables b.at lone (variables-of _ _ scope) (sym first))) x
 
   module _ (met : in_set a.event.label labels ≡ true) where
-    together : has_value vs ≡ true → AlikeRows (InstancesReached d over b 0 r (all_move d a g over b 0 r)) (Reached d a g p r)
-    together some = of-instances (all_move d a g over b 0 r) (all-arm g a.event p.scope.variables r.cells p.at vs labels body b.scope.variables b.at met some (variables-of _ _ scope) (sym first))
+    alike-all : has_value vs ≡ true → Alike (Moves Whole) (all_move d a g over b 0 r)
+    alike-all some = all-arm g a.event p.scope.variables r.cells p.at vs labels body b.scope.variables b.at met some (variables-of _ _ scope) (sym first)
 
-    pub all-together : {E : Type 0} (o o' : Ordered Row) (res : Result (Unit {0}) E) → has_value vs ≡ true
+    without : (l : List ℕ) → has_value l ≡ false → (s : Cells) → Moves (quantified_synchronisation l labels body) s → ⊥
+    without [] e s m = none-arm g a.event p.scope.variables r.cells p.at labels body _ s met m
+    without (x ∷ l) e s m = true≢false e
+
+    -- if the part can move, there is a value, and all instances can
+    some-value : Any (Moves Whole) → has_value vs ≡ true
+    some-value w = there (has_value vs) refl
+      where
+        there : (t : Bool) → has_value vs ≡ t → has_value vs ≡ true
+        there true is = is
+        there false is = absurd (without vs is w.0 w.1)
+
+    pub all-can : Any (successors d a g p r) → (has_value vs ≡ true) × Any (all_move d a g over b 0 r)
+    all-can c =
+        let w : Any (Moves Whole) = subst (λ (t : Tree). Any (Moves t)) is c in
+        let some = some-value w in
+        (some, any-alike (Moves Whole) (all_move d a g over b 0 r) (alike-all some) w)
+
+    together : has_value vs ≡ true → AlikeRows (InstancesReached d over b 0 r (all_move d a g over b 0 r)) (Reached d a g p r)
+    together some = of-instances (all_move d a g over b 0 r) (alike-all some)
+
+    pub all-together : {E : Type 0} (o o' : OrderedRows) (res : Result (Unit {0}) E) → has_value vs ≡ true
         → Added (InstancesReached d over b 0 r (all_move d a g over b 0 r)) o o' res → Added (Reached d a g p r) o o' res
     all-together o o' res some x = added-alike _ (Reached d a g p r) o o' res (together some) x
 
     -- with no room and some row, there is one too many
-    pub no-room : (o : Ordered Row) → room o ≡ 0 → has_value vs ≡ true → InstancesInside d over b 0 → Any (all_move d a g over b 0 r) → Exceeds (Reached d a g p r) (room o) (held o)
+    pub no-room : (o : OrderedRows) → room o ≡ 0 → has_value vs ≡ true → InstancesInside d over b 0 → Any (all_move d a g over b 0 r) → Exceeds (Reached d a g p r) (room o) (held o)
     no-room o z some inside can =
         let n = times vs (width body) in
         let y = framed-any r.cells b.at n (all_move d a g over b 0 r) r.full inside (long-all body g a.event b.scope.variables vs (part_at n r.cells b.at) (length-part r.cells b.at n)) can in
         exceeds-one (Reached d a g p r) (room o) (held o) y.0 z ((together some).to y.0 y.1)
 
     -- no row, if there is no value
-    pub no-value : (o : Ordered Row) → has_value vs ≡ false → Rising row_rank (held o) → Gained (Reached d a g p r) (held o) (held o)
+    pub no-value : (o : OrderedRows) → has_value vs ≡ false → Rising row_rank (held o) → Gained (Reached d a g p r) (held o) (held o)
     no-value o none = added-none (Reached d a g p r) o (subst (λ (t : Tree). (y : Row) → Framed r.cells p.at (width t) (Moves t) y → ⊥) (sym is) (λ y f. without vs none f.0 f.1))
-      where
-        without : (l : List ℕ) → has_value l ≡ false → (s : Cells) → Moves (quantified_synchronisation l labels body) s → ⊥
-        without [] e s m = none-arm g a.event p.scope.variables r.cells p.at labels body _ s met m
-        without (x ∷ l) e s m = true≢false e
 
     -- nor if one of the instances cannot move
-    pub not-all : (o : Ordered Row) → has_value vs ≡ true → (Any (all_move d a g over b 0 r) → ⊥) → Rising row_rank (held o) → Gained (Reached d a g p r) (held o) (held o)
+    pub not-all : (o : OrderedRows) → has_value vs ≡ true → (Any (all_move d a g over b 0 r) → ⊥) → Rising row_rank (held o) → Gained (Reached d a g p r) (held o) (held o)
     not-all o some stuck = added-none (Reached d a g p r) o (λ y f. let i = (together some).fro y f in stuck (i.0, i.1))

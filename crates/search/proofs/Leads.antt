@@ -25,16 +25,16 @@ use Rattle.diagram.specs.declared.part.Part.{Part}
 use Rattle.diagram.proofs.Begins.{state-room}
 
 -- an element at an index within a list is in it
-index-in : (ws : List Arrow) (k : ℕ) → k < length ws → Memᴰ (slice_index_or ws k blank_arrow) ws
-index-in [] k h = absurd (omega arith)
-index-in (a ∷ ws) zero h = Memᴰ.head refl
-index-in (a ∷ ws) (suc k) h = Memᴰ.tail (index-in ws k (omega arith))
+pub index-in : {A : Type 0} (ws : List A) (d : A) (k : ℕ) → k < length ws → Memᴰ (slice_index_or ws k d) ws
+index-in [] d k h = absurd (omega arith)
+index-in (a ∷ ws) d zero h = Memᴰ.head refl
+index-in (a ∷ ws) d (suc k) h = Memᴰ.tail (index-in ws d k (omega arith))
 
 -- each arrow of node i is one of the file's that has the node i
 pub of-file : (i : ℕ) (ws : List Arrow) (w : NumberedArrow) → Memᴰ w (arrows_of i 0 ws) → Memᴰ w.arrow ws × (w.arrow.node ≡ i)
 of-file i ws w m =
     let o = arrow-of i 0 ws w m in
-    (subst (λ (a : Arrow). Memᴰ a ws) o.arrow (index-in ws o.place o.within), o.node)
+    (subst (λ (a : Arrow). Memᴰ a ws) o.arrow (index-in ws blank_arrow o.place o.within), o.node)
 
 -- an arrow is among numbered ones
 abbrev pub Among : List NumberedArrow → Arrow → Type 0

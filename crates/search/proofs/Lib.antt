@@ -2,6 +2,7 @@ pub mod Leads
 pub mod Chosen
 pub mod Automata
 pub mod Fires
+pub mod Looked
 pub mod Collects
 pub mod Steps
 pub mod Sides

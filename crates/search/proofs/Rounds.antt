@@ -6,14 +6,13 @@ use Rattle.std.proofs.lemmas.Option.{none-some, slice_get_read}
 use mathlib.Core.List.{Memᴰ}
 use Rattle.ordered.specs.Held.{held, room}
 use Rattle.ordered.specs.Order.{Rising}
-use Rattle.ordered.specs.declared.list.Ordered.{Ordered}
-use Rattle.row.specs.Rows.{row_rank}
+use Rattle.row.specs.Rows.{row_rank, OrderedRows}
 use Rattle.row.specs.declared.row.Row.{Row}
 use Rattle.motions.specs.Collecting.{Gained, Exceeds, Stays, Added, FromEach}
 use Rattle.motions.proofs.Adds.{adds-overflow, gained-alike, added-each, each-some, each-all}
 
 -- what is returned early is an error
-pub early : {E : Type 0} (X : Row → Type 0) (o o' : Ordered Row) (r : Result (Unit {0}) E) → IsErr r → (Rising row_rank (held o) → Exceeds X (room o) (held o)) → Added X o o' r
+pub early : {E : Type 0} (X : Row → Type 0) (o o' : OrderedRows) (r : Result (Unit {0}) E) → IsErr r → (Rising row_rank (held o) → Exceeds X (room o) (held o)) → Added X o o' r
 early X o o' (Ok u) is x = absurd (true≢false (sym is))
 early X o o' (Err e) is x = x
 
@@ -31,14 +30,14 @@ row-in l items is i x h e = subst (λ (k : List Row). Memᴰ x k) is (member ite
 
 module _ (l items : List Row) (Y : Row → Row → Type 0) (is : items ≡ l) (i : ℕ) where
   -- after the last round, from each row
-  pub after-rounds : (o m : Ordered Row) → length items ≤ i → (Rising row_rank (held o) → Gained (FromEach (take i items) Y) (held o) (held m)) → Rising row_rank (held o) → Gained (FromEach l Y) (held o) (held m)
+  pub after-rounds : (o m : OrderedRows) → length items ≤ i → (Rising row_rank (held o) → Gained (FromEach (take i items) Y) (held o) (held m)) → Rising row_rank (held o) → Gained (FromEach l Y) (held o) (held m)
   after-rounds o m h a r =
       subst (λ (k : List Row). Gained (FromEach k Y) (held o) (held m)) is
       (gained-alike (FromEach (take i items) Y) (FromEach items Y) (held o) (held m) (each-all items Y i h) (a r))
 
-  module _ (x : Row) (h : i < length items) (e : x ≡ slice_index_or items i x) (o m : Ordered Row) (s : Stays o m) (a : Rising row_rank (held o) → Gained (FromEach (take i items) Y) (held o) (held m)) where
+  module _ (x : Row) (h : i < length items) (e : x ≡ slice_index_or items i x) (o m : OrderedRows) (s : Stays o m) (a : Rising row_rank (held o) → Gained (FromEach (take i items) Y) (held o) (held m)) where
     -- one more round
-    pub next-round : (o' : Ordered Row) → (Rising row_rank (held m) → Gained (Y x) (held m) (held o')) → Rising row_rank (held o) → Gained (FromEach (take (i + 1) items) Y) (held o) (held o')
+    pub next-round : (o' : OrderedRows) → (Rising row_rank (held m) → Gained (Y x) (held m) (held o')) → Rising row_rank (held o) → Gained (FromEach (take (i + 1) items) Y) (held o) (held o')
     next-round o' b = added-each {E = ℕ} items Y i x o m o' (Ok tt) (row-there items i x h e) s a b
 
     -- a round that overflows

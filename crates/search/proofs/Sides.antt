@@ -5,18 +5,17 @@ use mathlib.Core.List.{Memᴰ}
 use mathlib.Core.List.Memᴰ
 use Rattle.ordered.specs.Held.{held, room}
 use Rattle.ordered.specs.Order.{Rising}
-use Rattle.ordered.specs.declared.list.Ordered.{Ordered}
-use Rattle.row.specs.Rows.{row_rank}
+use Rattle.row.specs.Rows.{row_rank, OrderedRows}
 use Rattle.row.specs.declared.row.Row.{Row}
 use Rattle.rules.specs.Trees.{Tree, Guards, synchronisation}
 use Rattle.rules.specs.Cells.{Cells, width}
 use Rattle.rules.specs.Rules.{Motion, Step, in_set}
 use Rattle.motions.specs.Framing.{part_at, Framed}
-use Rattle.motions.specs.Ways.{Way, Any, Long, Either, Left, Right, Joined}
+use Rattle.motions.specs.Ways.{Way, Alike, Any, Long, Either, Left, Right, Joined}
 use Rattle.motions.specs.Collecting.{Gained, Exceeds, Stays, Added, AlikeRows, EitherRow, FromEach}
 use Rattle.motions.proofs.Frames.{part-beside, length-part}
 use Rattle.motions.proofs.Framed.{framed-alike, framed-either, framed-left, framed-right, framed-any, any-framed, product, product-exceeds}
-use Rattle.motions.proofs.Anys.{alike-sym, any-joined, long-step}
+use Rattle.motions.proofs.Anys.{alike-sym, any-alike, any-joined, any-joined-back, long-step}
 use Rattle.motions.proofs.Adds.{each-alike, added-alike, rows-sym, rows-trans, rows-either}
 use Rattle.diagram.specs.Plans.{tree_at}
 use Rattle.answers.specs.declared.answers.Answers.{Answers}
@@ -28,10 +27,10 @@ use Rattle.search.specs.Searching.{cells_of, Beside, successors, moves_from, Rea
 use Rattle.motions.proofs.Arms.{apart-arm, together-arm}
 
 -- what a list holds that was empty
-pub gained-first : (X : Row → Type 0) (o m : Ordered Row) → held o ≡ [] → (Rising row_rank (held o) → Gained X (held o) (held m)) → Gained X [] (held m)
+pub gained-first : (X : Row → Type 0) (o m : OrderedRows) → held o ≡ [] → (Rising row_rank (held o) → Gained X (held o) (held m)) → Gained X [] (held m)
 gained-first X o m e a = subst (λ (l : List Row). Gained X l (held m)) e (a (subst (Rising row_rank) (sym e) tt))
 
-pub exceeds-first : (X : Row → Type 0) (o : Ordered Row) → held o ≡ [] → (Rising row_rank (held o) → Exceeds X (room o) (held o)) → Exceeds X (room o) []
+pub exceeds-first : (X : Row → Type 0) (o : OrderedRows) → held o ≡ [] → (Rising row_rank (held o) → Exceeds X (room o) (held o)) → Exceeds X (room o) []
 exceeds-first X o e a = subst (λ (l : List Row). Exceeds X (room o) l) e (a (subst (Rising row_rank) (sym e) tt))
 
 pub first-only : (X : Row → Type 0) (l : List Row) → Gained X [] l → (y : Row) → Memᴰ y l → X y
@@ -47,7 +46,7 @@ exceeds-one X n before y e x = record {
 }
 
 -- what a list without room tells: whether there is a row
-pub room-decides : {E : Type 0} (X : Row → Type 0) (P : Way) (o o' : Ordered Row) (r : Result (Unit {0}) E) (b : Bool) → b ≡ is_err r → room o ≡ 0 → held o ≡ [] → Stays o o'
+pub room-decides : {E : Type 0} (X : Row → Type 0) (P : Way) (o o' : OrderedRows) (r : Result (Unit {0}) E) (b : Bool) → b ≡ is_err r → room o ≡ 0 → held o ≡ [] → Stays o o'
     → Added X o o' r → (Any P → (y : Row) × X y) → ((y : Row) → X y → Any P) → Decides b (Any P)
 room-decides X P o o' (Ok u) b is none empty s a some any =
     let g : Gained X [] (held o') = gained-first X o o' empty a in
@@ -73,6 +72,10 @@ module _ (r : Cells) (at m n : ℕ) (P : Way) (B : Motion) (size : length r ≡ 
   pub still-beside : (x : Row) → Framed r at m P x → part_at n x.cells (at + m) ≡ part_at n r (at + m)
   still-beside x f = ap (λ w. part_at n w (at + m)) f.2 ∙ part-beside r at m n f.0 (omega arith) (long f.0 f.1)
 
+  -- so they can move there, if they could
+  pub beside-can : (x : Row) → Framed r at m P x → Any (B (part_at n r (at + m))) → Any (B (part_at n x.cells (at + m)))
+  beside-can x f w = subst (λ (c : Cells). Any (B c)) (sym (still-beside x f)) w
+
   -- both move: those beside, in each row where the first have moved
   pub both-rows : (l : List Row) → Gained (Framed r at m P) [] l → AlikeRows (FromEach l (λ x y. Framed x.cells (at + m) n (B (part_at n x.cells (at + m))) y)) (Framed r at (m + n) (Joined P (B (part_at n r (at + m)))))
   both-rows l a =
@@ -81,23 +84,26 @@ module _ (r : Cells) (at m n : ℕ) (P : Way) (B : Motion) (size : length r ≡ 
       (λ x i. subst (λ (c : Cells). AlikeRows (Framed x.cells (at + m) n (B (part_at n x.cells (at + m)))) (Framed x.cells (at + m) n (B c))) (still-beside x (first-only _ l a x i)) (record { to = λ y f. f; fro = λ y f. f })))
       (product r at m n P (B (part_at n r (at + m))) l size h long (first-only _ l a) (λ x f. a.all x (inr f)))
 
-  pub both-added : {E : Type 0} (o o' : Ordered Row) (s s' : Ordered Row) (res : Result (Unit {0}) E) → held s ≡ [] → (Rising row_rank (held s) → Gained (Framed r at m P) (held s) (held s'))
+  pub both-added : {E : Type 0} (o o' : OrderedRows) (s s' : OrderedRows) (res : Result (Unit {0}) E) → held s ≡ [] → (Rising row_rank (held s) → Gained (Framed r at m P) (held s) (held s'))
       → Added (FromEach (held s') (λ x y. Framed x.cells (at + m) n (B (part_at n x.cells (at + m))) y)) o o' res → Added (Framed r at (m + n) (Joined P (B (part_at n r (at + m))))) o o' res
   both-added o o' s s' res e a b = added-alike _ _ o o' res (both-rows (held s') (gained-first (Framed r at m P) s s' e a)) b
 
   -- too many rows of the first are too many of both, if those beside can move
-  pub both-over : (o s : Ordered Row) → room o ≤ room s → held s ≡ [] → Long n (B (part_at n r (at + m))) → Any (B (part_at n r (at + m))) → (Rising row_rank (held s) → Exceeds (Framed r at m P) (room s) (held s))
+  pub both-over : (o s : OrderedRows) → room o ≤ room s → held s ≡ [] → Long n (B (part_at n r (at + m))) → Any (B (part_at n r (at + m))) → (Rising row_rank (held s) → Exceeds (Framed r at m P) (room s) (held s))
       → Exceeds (Framed r at (m + n) (Joined P (B (part_at n r (at + m))))) (room o) (held o)
   both-over o s le e long' any a = product-exceeds r at m n (room s) (room o) P (B (part_at n r (at + m))) (held o) size h long long' any le (exceeds-first (Framed r at m P) s e a)
 
   module _ (at-a at-b : ℕ) (ea : at-a ≡ at) (eb : at-b ≡ at + m) where
-    pub both-added-at : {E : Type 0} (o o' : Ordered Row) (s s' : Ordered Row) (res : Result (Unit {0}) E) → held s ≡ [] → (Rising row_rank (held s) → Gained (Framed r at-a m P) (held s) (held s'))
+    pub both-added-at : {E : Type 0} (o o' : OrderedRows) (s s' : OrderedRows) (res : Result (Unit {0}) E) → held s ≡ [] → (Rising row_rank (held s) → Gained (Framed r at-a m P) (held s) (held s'))
         → Added (FromEach (held s') (λ x y. Framed x.cells at-b n (B (part_at n x.cells at-b)) y)) o o' res → Added (Framed r at (m + n) (Joined P (B (part_at n r at-b)))) o o' res
     both-added-at o o' s s' res e a =
         subst (λ (b : ℕ). Added (FromEach (held s') (λ x y. Framed x.cells b n (B (part_at n x.cells b)) y)) o o' res → Added (Framed r at (m + n) (Joined P (B (part_at n r b)))) o o' res) (sym eb)
         (both-added o o' s s' res e (λ k. subst (λ (b : ℕ). Gained (Framed r b m P) (held s) (held s')) ea (a k)))
 
-    pub both-over-at : (o s : Ordered Row) → room o ≤ room s → held s ≡ [] → Long n (B (part_at n r at-b)) → Any (B (part_at n r at-b)) → (Rising row_rank (held s) → Exceeds (Framed r at-a m P) (room s) (held s))
+    pub beside-can-at : (x : Row) → Framed r at-a m P x → Any (B (part_at n r at-b)) → Any (B (part_at n x.cells at-b))
+    beside-can-at x f = subst (λ (b : ℕ). Any (B (part_at n r b)) → Any (B (part_at n x.cells b))) (sym eb) (beside-can x (subst (λ (b : ℕ). Framed r b m P x) ea f))
+
+    pub both-over-at : (o s : OrderedRows) → room o ≤ room s → held s ≡ [] → Long n (B (part_at n r at-b)) → Any (B (part_at n r at-b)) → (Rising row_rank (held s) → Exceeds (Framed r at-a m P) (room s) (held s))
         → Exceeds (Framed r at (m + n) (Joined P (B (part_at n r at-b)))) (room o) (held o)
     both-over-at o s le e long' any a =
         subst (λ (b : ℕ). Long n (B (part_at n r b)) → Any (B (part_at n r b)) → Exceeds (Framed r at (m + n) (Joined P (B (part_at n r b)))) (room o) (held o)) (sym eb)
@@ -134,19 +140,26 @@ module _ (d : Diagram) (a : Answers) (g : Guards) where
       fits : p.at + (part_width d left + part_width d right) ≤ 48
       fits = let e = b.right_is_beside in omega arith
 
-      pub sides-full : (o : Ordered Row) → room o ≡ 0 → Any (successors d a g left r) → Any (successors d a g right r) → Exceeds Both (room o) (held o)
+      pub sides-full : (o : OrderedRows) → room o ≡ 0 → Any (successors d a g left r) → Any (successors d a g right r) → Exceeds Both (room o) (held o)
       sides-full o z u w =
           let P = successors d a g left r in
           let Q = successors d a g right r in
           let y = framed-any r.cells p.at (part_width d left + part_width d right) (Joined P Q) r.full fits (long-joined _ _ P Q (long-successors left r) (long-successors right r)) (any-joined P Q u w) in
           exceeds-one Both (room o) (held o) y.0 z y.1
 
-      pub sides-over : (o s : Ordered Row) → room o ≤ room s → held s ≡ [] → Any (successors d a g right r) → (Rising row_rank (held s) → Exceeds (Reached d a g left r) (room s) (held s)) → Exceeds Both (room o) (held o)
+      -- where the left side has moved, the right one can move if it could
+      pub right-can : (s s' : OrderedRows) → held s ≡ [] → (Rising row_rank (held s) → Gained (Reached d a g left r) (held s) (held s')) → Any (successors d a g right r)
+          → (y : Row) → Memᴰ y (held s') → Any (successors d a g right y)
+      right-can s s' e x w y i =
+          beside-can-at r.cells p.at (part_width d left) (part_width d right) (successors d a g left r) (moves_from d a g right) r.full fits (long-successors left r)
+          left.at right.at b.left_is_first b.right_is_beside y (first-only (Reached d a g left r) (held s') (gained-first (Reached d a g left r) s s' e x) y i) w
+
+      pub sides-over : (o s : OrderedRows) → room o ≤ room s → held s ≡ [] → Any (successors d a g right r) → (Rising row_rank (held s) → Exceeds (Reached d a g left r) (room s) (held s)) → Exceeds Both (room o) (held o)
       sides-over o s le e w x =
           both-over-at r.cells p.at (part_width d left) (part_width d right) (successors d a g left r) (moves_from d a g right) r.full fits (long-successors left r)
           left.at right.at b.left_is_first b.right_is_beside o s le e (long-successors right r) w x
 
-      pub sides-added : {E : Type 0} (o o' : Ordered Row) (s s' : Ordered Row) (res : Result (Unit {0}) E) → held s ≡ [] → (Rising row_rank (held s) → Gained (Reached d a g left r) (held s) (held s'))
+      pub sides-added : {E : Type 0} (o o' : OrderedRows) (s s' : OrderedRows) (res : Result (Unit {0}) E) → held s ≡ [] → (Rising row_rank (held s) → Gained (Reached d a g left r) (held s) (held s'))
           → Added (FromEach (held s') (λ x y. Reached d a g right x y)) o o' res → Added Both o o' res
       sides-added o o' s s' res e x =
           both-added-at r.cells p.at (part_width d left) (part_width d right) (successors d a g left r) (moves_from d a g right) r.full fits (long-successors left r)
@@ -164,17 +177,29 @@ module _ (d : Diagram) (a : Answers) (g : Guards) where
       room-for = subst (λ (t : Tree). p.at + width t ≤ 48) is within
 
       -- together: both sides move
-      pub together-added : {E : Type 0} (o o' : Ordered Row) (res : Result (Unit {0}) E) → in_set a.event.label labels ≡ true → Added Both o o' res → Added (Reached d a g p r) o o' res
+      together : in_set a.event.label labels ≡ true → Alike (Step Syn g a.event p.scope.variables (part_at (width Syn) r.cells p.at)) (Joined (successors d a g left r) (successors d a g right r))
+      together met =
+          together-arm g a.event p.scope.variables r.cells p.at labels (tree_at d.plan left.node) (tree_at d.plan right.node) left.scope.variables right.scope.variables left.at right.at met
+          (variables-of _ _ b.left_scope) (variables-of _ _ b.right_scope) (sym b.left_is_first) (sym b.right_is_beside)
+
+      -- so both can, if the part can
+      pub sides-can : in_set a.event.label labels ≡ true → Any (successors d a g p r) → Any (successors d a g left r) × Any (successors d a g right r)
+      sides-can met w =
+          let P = successors d a g left r in
+          let Q = successors d a g right r in
+          any-joined-back P Q
+          (any-alike (successors d a g p r) (Joined P Q) (subst (λ (t : Tree). Alike (Step t g a.event p.scope.variables (part_at (width t) r.cells p.at)) (Joined P Q)) (sym is) (together met)) w)
+
+      pub together-added : {E : Type 0} (o o' : OrderedRows) (res : Result (Unit {0}) E) → in_set a.event.label labels ≡ true → Added Both o o' res → Added (Reached d a g p r) o o' res
       together-added o o' res met x =
           subst (λ (t : Tree). Added (By t) o o' res) (sym is)
           (added-alike Both (By Syn) o o' res
           (framed-alike r.cells p.at (part_width d left + part_width d right) (Joined (successors d a g left r) (successors d a g right r)) (Step Syn g a.event p.scope.variables (part_at (width Syn) r.cells p.at))
-          (alike-sym _ _ (together-arm g a.event p.scope.variables r.cells p.at labels (tree_at d.plan left.node) (tree_at d.plan right.node) left.scope.variables right.scope.variables left.at right.at met
-          (variables-of _ _ b.left_scope) (variables-of _ _ b.right_scope) (sym b.left_is_first) (sym b.right_is_beside))))
+          (alike-sym _ _ (together met)))
           x)
 
       -- apart: either side moves
-      pub apart-added : {E : Type 0} (o o' : Ordered Row) (res : Result (Unit {0}) E) → in_set a.event.label labels ≡ false → Added (EitherRow (Reached d a g left r) (Reached d a g right r)) o o' res → Added (Reached d a g p r) o o' res
+      pub apart-added : {E : Type 0} (o o' : OrderedRows) (res : Result (Unit {0}) E) → in_set a.event.label labels ≡ false → Added (EitherRow (Reached d a g left r) (Reached d a g right r)) o o' res → Added (Reached d a g p r) o o' res
       apart-added o o' res lone x =
           let m = part_width d left in
           let n = part_width d right in

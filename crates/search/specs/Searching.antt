@@ -1,11 +1,11 @@
 -- How an event moves the parts of a row, and what the search promises of it.
-use Rattle.std.specs.Prelude.{◌≡◌, ℕ, ◌+◌, ◌-◌, ◌<◌, ◌≤◌, Bool, Decides, List, length, drop, Option, Some, Result, slice_index}
+use Rattle.std.specs.Prelude.{◌≡◌, ℕ, ◌+◌, ◌-◌, ◌<◌, ◌≤◌, ◌⊎◌, Bool, Decides, List, length, drop, Option, Some, Result, slice_index}
 use Rattle.std.specs.List.{slice_get}
 use mathlib.Core.List.{Memᴰ}
 use Rattle.notation.specs.declared.arrow.Arrow.{Arrow}
 use Rattle.notation.specs.declared.node.States.{States}
 use Rattle.ordered.specs.Held.{room}
-use Rattle.ordered.specs.declared.list.Ordered.{Ordered}
+use Rattle.row.specs.Rows.{OrderedRows}
 use Rattle.row.specs.declared.row.Row.{Row}
 use Rattle.rules.specs.Trees.{Tree, Guards, bound}
 use Rattle.rules.specs.Cells.{Cells, width, initial, tagged, times}
@@ -16,6 +16,7 @@ use Rattle.motions.specs.Ways.{Way, Any, If, Tagged, Joined, Chosen, Resumed}
 use Rattle.motions.specs.Collecting.{Added, EitherRow, FromEach}
 use Rattle.diagram.specs.Valued.{values_of}
 use Rattle.diagram.specs.Plans.{nodes_of, arrows_in, tree_at}
+use Rattle.diagram.specs.Owning.{own_arrows, labelled_arrows}
 use Rattle.diagram.specs.Scopes.{binders_at, typed_under, Suits}
 use Rattle.diagram.specs.Parts.{part_tree, part_width, InPlace}
 use Rattle.diagram.specs.declared.diagram.Diagram.{Diagram}
@@ -47,6 +48,10 @@ Reached d a g p r y = Framed r.cells p.at (part_width d p) (successors d a g p r
 -- an arrow has a number in the file
 abbrev pub IsArrow : Diagram → ℕ → Arrow → Type 0
 IsArrow d number w = slice_get (arrows_in d.plan) number ≡ Some w
+
+-- the numbers of a node's arrows, or of those with a label
+abbrev pub LookedAt : List Arrow → ℕ → ℕ → List ℕ → Type 0
+LookedAt ws node label numbers = (numbers ≡ own_arrows ws node) ⊎ (numbers ≡ labelled_arrows ws label)
 
 -- an arrow of the automaton at a part leads out of a state, whose child has its cells behind the state's number
 abbrev pub LeadsFrom : Diagram → Answers → Guards → Part → ℕ → Option ℕ → Row → Arrow → Type 0
@@ -131,11 +136,11 @@ PartReached d p r P y = Framed r.cells p.at (part_width d p) P y
 -- ---- what a search promises, for all answers of guards that its table agrees with
 
 -- the rows of X are added to a list of at most 128 places, where P holds
-abbrev pub CollectsIf : {E : Type 0} → Search → (Guards → Type 0) → (Guards → Row → Type 0) → Ordered Row → Ordered Row → Result (Unit {0}) E → Type 0
+abbrev pub CollectsIf : {E : Type 0} → Search → (Guards → Type 0) → (Guards → Row → Type 0) → OrderedRows → OrderedRows → Result (Unit {0}) E → Type 0
 CollectsIf s P X before after r = (g : Guards) → Agrees s.diagram.now s.answers.now g → room before ≤ 128 → P g → Added (X g) before after r
 
 -- the same without a condition
-abbrev pub Collects : {E : Type 0} → Search → (Guards → Row → Type 0) → Ordered Row → Ordered Row → Result (Unit {0}) E → Type 0
+abbrev pub Collects : {E : Type 0} → Search → (Guards → Row → Type 0) → OrderedRows → OrderedRows → Result (Unit {0}) E → Type 0
 Collects s X before after r = (g : Guards) → Agrees s.diagram.now s.answers.now g → room before ≤ 128 → Added (X g) before after r
 
 -- an answer says whether there are cells of a kind

@@ -1,8 +1,8 @@
-ghost use Rattle.std.specs.Prelude.{◌≡◌, ℕ, ◌+◌, ◌<◌, ◌≤◌, Some};
+ghost use Rattle.std.specs.Prelude.{◌≡◌, ℕ, ◌+◌, ◌<◌, ◌≤◌, length, Some};
 ghost use Rattle.std.specs.List.{slice_get};
 ghost use mathlib.Core.List.{Memᴰ};
 ghost use Rattle.notation.specs.declared.node.Node.TheVariants.{Automaton, Guard};
-ghost use Rattle.ordered.specs.Held.{held};
+ghost use Rattle.ordered.specs.Held.{held, room};
 ghost use Rattle.row.specs.declared.row.Row.{Row};
 ghost use Rattle.rules.specs.Trees.{sequence, closure, guarded, choice, synchronisation, quantified_choice, quantified_synchronisation};
 ghost use Rattle.rules.specs.Growing.{labels_of};
@@ -22,6 +22,9 @@ use notation::arrow::Arrow;
 use notation::node::{Labels, Node, States};
 use ordered::list::Ordered;
 use row::row::Row;
+
+/// A scratch list has so many places where the list that is collected into has no more, and 128 elsewhere: clearing those takes its time.
+pub const FEW: usize = 8;
 
 impl Search<'_> {
     /// If it is allowed to, a child moves from its initial state, behind a tag.
@@ -210,7 +213,95 @@ impl Search<'_> {
         self.collect(right, row, out)
     }
 
-    /// Both sides move, where the label is in the set (syn-3). It is asked first whether they can, so that what one side gives is never in vain.
+    /// Both sides move, which both can (syn-3), with a scratch list in places that are lent. The right side still can where the left one has moved, so it is not asked again.
+    // there are no fewer places than in the list that is collected into: if these overflow, so would that; in line in the two that lend, so that it takes no more of the stack
+    #[inline(always)]
+    #[cycle(collecting)]
+    fn both_move_in(
+        &self,
+        part: Part,
+        left: Part,
+        right: Part,
+        row: &Row,
+        places: &mut [Row],
+        out: &mut Ordered<Row>,
+    ) -> Result<(), Overflow>
+        requires are_beside { Beside self.now.diagram.now part left right }
+        requires are_inside { right.at + part_width self.now.diagram.now right ≤ 48 }
+        requires are_few_enough { length places.old ≤ 128 }
+        ensures stays { Stays out.old out.new }
+        ensures adds { room out.old ≤ length places.old → CollectsIf self.now (λ g. Any (successors_of self.now left row.now g) × Any (successors_of self.now right row.now g)) (RowsOfBothSides self.now part left right row.now) out.old out.new result }
+    {
+        let mut moved = Ordered::over(places);
+        self.collect_movable(left, row, &mut moved)?;
+        self.each_movable(right, moved.as_slice(), out)
+    }
+
+    /// The same for a list of few places.
+    // out of line like the next, so that what calls them and does more takes no place on the stack for the scratch list
+    #[inline(never)]
+    #[cycle(collecting)]
+    fn both_move_in_few(
+        &self,
+        part: Part,
+        left: Part,
+        right: Part,
+        row: &Row,
+        out: &mut Ordered<Row>,
+    ) -> Result<(), Overflow>
+        requires are_beside { Beside self.now.diagram.now part left right }
+        requires are_inside { right.at + part_width self.now.diagram.now right ≤ 48 }
+        requires has_few { room out.old ≤ 8 }
+        ensures stays { Stays out.old out.new }
+        ensures adds { CollectsIf self.now (λ g. Any (successors_of self.now left row.now g) × Any (successors_of self.now right row.now g)) (RowsOfBothSides self.now part left right row.now) out.old out.new result }
+    {
+        let mut places = [Row { cells: [0; 48] }; FEW];
+        self.both_move_in(part, left, right, row, &mut places, out)
+    }
+
+    /// The same for any list: none that is collected into has more places.
+    #[inline(never)]
+    #[cycle(collecting)]
+    fn both_move_in_many(
+        &self,
+        part: Part,
+        left: Part,
+        right: Part,
+        row: &Row,
+        out: &mut Ordered<Row>,
+    ) -> Result<(), Overflow>
+        requires are_beside { Beside self.now.diagram.now part left right }
+        requires are_inside { right.at + part_width self.now.diagram.now right ≤ 48 }
+        ensures stays { Stays out.old out.new }
+        ensures adds { CollectsIf self.now (λ g. Any (successors_of self.now left row.now g) × Any (successors_of self.now right row.now g)) (RowsOfBothSides self.now part left right row.now) out.old out.new result }
+    {
+        let mut places = [Row { cells: [0; 48] }; 128];
+        self.both_move_in(part, left, right, row, &mut places, out)
+    }
+
+    /// Both sides move, which both can (syn-3).
+    #[cycle(collecting)]
+    fn both_move(
+        &self,
+        part: Part,
+        left: Part,
+        right: Part,
+        row: &Row,
+        out: &mut Ordered<Row>,
+    ) -> Result<(), Overflow>
+        requires are_beside { Beside self.now.diagram.now part left right }
+        requires are_inside { right.at + part_width self.now.diagram.now right ≤ 48 }
+        ensures stays { Stays out.old out.new }
+        ensures adds { CollectsIf self.now (λ g. Any (successors_of self.now left row.now g) × Any (successors_of self.now right row.now g)) (RowsOfBothSides self.now part left right row.now) out.old out.new result }
+    {
+        if out.room() <= FEW {
+            self.both_move_in_few(part, left, right, row, out)
+        } else {
+            self.both_move_in_many(part, left, right, row, out)
+        }
+    }
+
+    /// Both sides move, where the label is in the set. It is asked first whether they can, so that what one side gives is never in vain.
     #[cycle(collecting)]
     fn both_sides(
         &self,
@@ -232,11 +323,7 @@ impl Search<'_> {
         if out.room() == 0 {
             return Err(Overflow);
         }
-        // as many places as any list has that is collected into: if these overflow, so would they
-        let mut places = [Row { cells: [0; 48] }; 128];
-        let mut moved = Ordered::over(&mut places);
-        self.collect(left, row, &mut moved)?;
-        self.each(right, moved.as_slice(), out)
+        self.both_move(part, left, right, row, out)
     }
 
     /// A synchronisation.
@@ -263,15 +350,39 @@ impl Search<'_> {
         }
     }
 
-    /// The same part of each of some rows.
+    /// A synchronisation that can move: where its label is in the set, so can both sides.
     #[cycle(collecting)]
-    pub fn each(&self, part: Part, rows: &[Row], out: &mut Ordered<Row>) -> Result<(), Overflow>
+    fn movable_synchronisation(
+        &self,
+        part: Part,
+        left: Part,
+        right: Part,
+        labels: &Labels,
+        row: &Row,
+        out: &mut Ordered<Row>,
+    ) -> Result<(), Overflow>
+        requires is_in_place { InPlace self.now.diagram.now part }
+        requires are_beside { Beside self.now.diagram.now part left right }
+        requires is_synchronisation { part_tree self.now.diagram.now part ≡ synchronisation (labels_of labels.now) (part_tree self.now.diagram.now left) (part_tree self.now.diagram.now right) }
+        ensures stays { Stays out.old out.new }
+        ensures adds { CollectsIf self.now (λ g. Any (successors_of self.now part row.now g)) (RowsOfPart self.now part row.now) out.old out.new result }
+    {
+        if in_set(self.answers.event().label, labels) {
+            self.both_move(part, left, right, row, out)
+        } else {
+            self.either_side(part, left, right, row, out)
+        }
+    }
+
+    /// Collects the same part of each of some rows, in each of which it can move.
+    #[cycle(collecting)]
+    fn each_movable(&self, part: Part, rows: &[Row], out: &mut Ordered<Row>) -> Result<(), Overflow>
         requires is_in_place { InPlace self.now.diagram.now part }
         ensures stays { Stays out.old out.new }
-        ensures adds_the_successors_of_each { Collects self.now (RowsOfEach self.now part rows.now) out.old out.new result }
+        ensures adds { CollectsIf self.now (λ g. (x : Row) → Memᴰ x rows.now → Any (successors_of self.now part x g)) (RowsOfEach self.now part rows.now) out.old out.new result }
     {
         for row in rows {
-            self.collect(part, row, out)?;
+            self.collect_movable(part, row, out)?;
         }
         Ok(())
     }
@@ -404,6 +515,87 @@ impl Search<'_> {
         }
     }
 
+    /// The instance of the value x at a position moves, and so do all later ones, which all can (qsy-2), with a scratch list in places that are lent.
+    // in line for the same reason as with two sides
+    #[inline(always)]
+    #[cycle(collecting)]
+    fn all_instances_in(
+        &self,
+        part: Part,
+        over: u16,
+        body: Part,
+        k: usize,
+        x: u16,
+        row: &Row,
+        places: &mut [Row],
+        out: &mut Ordered<Row>,
+    ) -> Result<(), Overflow>
+        requires is_bound { Bound self.now.diagram.now part over body }
+        requires are_inside { InstancesInside self.now.diagram.now over body k }
+        requires is_a_position { k < 16 }
+        requires is_its_value { slice_get (values_of self.now.diagram.now.plan.values over) k ≡ Some x }
+        requires are_few_enough { length places.old ≤ 128 }
+        ensures stays { Stays out.old out.new }
+        ensures adds { room out.old ≤ length places.old → CollectsIf self.now (λ g. Any (all_ways self.now over body k row.now g)) (RowsOfAllInstances self.now over body k row.now) out.old out.new result }
+    {
+        let mut moved = Ordered::over(places);
+        self.collect_movable(body.bound(k + 1, x), row, &mut moved)?;
+        let next = body.of(
+            body.node,
+            body.at + self.diagram.width(usize::from(body.node)),
+        );
+        self.all_instances_of_each(part, over, next, k + 1, &moved, out)
+    }
+
+    /// The same for a list of few places.
+    #[inline(never)]
+    #[cycle(collecting)]
+    fn all_instances_in_few(
+        &self,
+        part: Part,
+        over: u16,
+        body: Part,
+        k: usize,
+        x: u16,
+        row: &Row,
+        out: &mut Ordered<Row>,
+    ) -> Result<(), Overflow>
+        requires is_bound { Bound self.now.diagram.now part over body }
+        requires are_inside { InstancesInside self.now.diagram.now over body k }
+        requires is_a_position { k < 16 }
+        requires is_its_value { slice_get (values_of self.now.diagram.now.plan.values over) k ≡ Some x }
+        requires has_few { room out.old ≤ 8 }
+        ensures stays { Stays out.old out.new }
+        ensures adds { CollectsIf self.now (λ g. Any (all_ways self.now over body k row.now g)) (RowsOfAllInstances self.now over body k row.now) out.old out.new result }
+    {
+        let mut places = [Row { cells: [0; 48] }; FEW];
+        self.all_instances_in(part, over, body, k, x, row, &mut places, out)
+    }
+
+    /// The same for any list: none that is collected into has more places.
+    #[inline(never)]
+    #[cycle(collecting)]
+    fn all_instances_in_many(
+        &self,
+        part: Part,
+        over: u16,
+        body: Part,
+        k: usize,
+        x: u16,
+        row: &Row,
+        out: &mut Ordered<Row>,
+    ) -> Result<(), Overflow>
+        requires is_bound { Bound self.now.diagram.now part over body }
+        requires are_inside { InstancesInside self.now.diagram.now over body k }
+        requires is_a_position { k < 16 }
+        requires is_its_value { slice_get (values_of self.now.diagram.now.plan.values over) k ≡ Some x }
+        ensures stays { Stays out.old out.new }
+        ensures adds { CollectsIf self.now (λ g. Any (all_ways self.now over body k row.now g)) (RowsOfAllInstances self.now over body k row.now) out.old out.new result }
+    {
+        let mut places = [Row { cells: [0; 48] }; 128];
+        self.all_instances_in(part, over, body, k, x, row, &mut places, out)
+    }
+
     /// All of the instances from a position on move, which all can (qsy-2).
     #[cycle(collecting)]
     fn all_instances(
@@ -422,16 +614,10 @@ impl Search<'_> {
     {
         match self.diagram.values(over).get(k) {
             None => put(*row, out),
-            Some(x) => {
-                let mut places = [Row { cells: [0; 48] }; 128];
-                let mut moved = Ordered::over(&mut places);
-                self.collect(body.bound(k + 1, *x), row, &mut moved)?;
-                let next = body.of(
-                    body.node,
-                    body.at + self.diagram.width(usize::from(body.node)),
-                );
-                self.all_instances_of_each(part, over, next, k + 1, &moved, out)
+            Some(x) if out.room() <= FEW => {
+                self.all_instances_in_few(part, over, body, k, *x, row, out)
             }
+            Some(x) => self.all_instances_in_many(part, over, body, k, *x, row, out),
         }
     }
 
@@ -486,6 +672,31 @@ impl Search<'_> {
             return Err(Overflow);
         }
         self.all_instances(part, over, body, 0, row, out)
+    }
+
+    /// A quantified synchronisation that can move: where its label is in the set, so can every instance.
+    #[cycle(collecting)]
+    fn movable_quantified_synchronisation(
+        &self,
+        part: Part,
+        over: u16,
+        body: Part,
+        labels: &Labels,
+        row: &Row,
+        out: &mut Ordered<Row>,
+    ) -> Result<(), Overflow>
+        requires is_in_place { InPlace self.now.diagram.now part }
+        requires is_bound { Bound self.now.diagram.now part over body }
+        requires is_first { body.at ≡ part.at }
+        requires is_quantified_synchronisation { part_tree self.now.diagram.now part ≡ quantified_synchronisation (values_of self.now.diagram.now.plan.values over) (labels_of labels.now) (part_tree self.now.diagram.now body) }
+        ensures stays { Stays out.old out.new }
+        ensures adds { CollectsIf self.now (λ g. Any (successors_of self.now part row.now g)) (RowsOfPart self.now part row.now) out.old out.new result }
+    {
+        if in_set(self.answers.event().label, labels) {
+            self.all_instances(part, over, body, 0, row, out)
+        } else {
+            self.one_instance(part, over, body, 0, row, out)
+        }
     }
 
     /// Puts the row with a part replaced by each of its successors into a list.
@@ -547,6 +758,37 @@ impl Search<'_> {
         }
     }
 
+    /// The same of a part that can move, as is known already: where all its sides or instances have to move, they are not asked again.
+    #[cycle(collecting)]
+    fn collect_movable(&self, part: Part, row: &Row, out: &mut Ordered<Row>) -> Result<(), Overflow>
+        requires is_in_place { InPlace self.now.diagram.now part }
+        ensures stays { Stays out.old out.new }
+        ensures adds { CollectsIf self.now (λ g. Any (successors_of self.now part row.now g)) (RowsOfPart self.now part row.now) out.old out.new result }
+    {
+        match self.diagram.node(usize::from(part.node)) {
+            Node::Synchronisation {
+                left,
+                right,
+                labels,
+            } => {
+                let left = part.of(left, part.at);
+                let right = part.of(right, part.at + self.diagram.width(usize::from(left.node)));
+                self.movable_synchronisation(part, left, right, &labels, row, out)
+            }
+            Node::QuantifiedSynchronisation { over, body, labels } => {
+                self.movable_quantified_synchronisation(
+                    part,
+                    over,
+                    part.of(body, part.at),
+                    &labels,
+                    row,
+                    out,
+                )
+            }
+            _ => self.collect(part, row, out),
+        }
+    }
+
     /// Whether the event moves a part of a row: then its successors have no room in a list without places.
     #[cycle(collecting)]
     pub fn can_move(&self, part: Part, row: &Row) -> bool
@@ -556,5 +798,17 @@ impl Search<'_> {
         let mut none = [];
         self.collect(part, row, &mut Ordered::over(&mut none))
             .is_err()
+    }
+
+    /// The same part of each of some rows.
+    pub fn each(&self, part: Part, rows: &[Row], out: &mut Ordered<Row>) -> Result<(), Overflow>
+        requires is_in_place { InPlace self.now.diagram.now part }
+        ensures stays { Stays out.old out.new }
+        ensures adds_the_successors_of_each { Collects self.now (RowsOfEach self.now part rows.now) out.old out.new result }
+    {
+        for row in rows {
+            self.collect(part, row, out)?;
+        }
+        Ok(())
     }
 }

@@ -1,10 +1,11 @@
-ghost use Rattle.std.specs.Prelude.{◌≡◌};
+ghost use Rattle.std.specs.Prelude.{◌≡◌, ◌<◌, length};
 ghost use Rattle.notation.specs.declared.node.Node.TheVariants.{Automaton};
 ghost use Rattle.rules.specs.Trees.{Guards};
 ghost use Rattle.motions.specs.Collecting.{Stays, Added};
+ghost use Rattle.diagram.specs.Plans.{nodes_of, arrows_in};
 ghost use Rattle.diagram.specs.Parts.{IsPartOf, InPlace};
 ghost use Rattle.answers.specs.Answering.{Agrees};
-ghost use Rattle.search.specs.Searching.{IsArrow, RowsOfArrow, RowsOfArrows};
+ghost use Rattle.search.specs.Searching.{IsArrow, LookedAt, RowsOfArrow, RowsOfArrows};
 
 use crate::overflow::Overflow;
 use crate::search::Search;
@@ -54,7 +55,25 @@ impl Search<'_> {
         )
     }
 
-    /// The same for every arrow of the file.
+    /// The numbers of the arrows that are looked at for a node: its own or, where these are fewer, those with the event's label.
+    fn looked_at(&self, node: u16) -> &[u8]
+        requires is_node { node < length (nodes_of self.now.diagram.now.plan) }
+        ensures { LookedAt (arrows_in self.now.diagram.now.plan) node self.now.answers.now.event.label result.now }
+    {
+        let own = self.diagram.own_arrows(usize::from(node));
+        let label = usize::from(self.answers.event().label);
+        if label > 255 {
+            return own;
+        }
+        let labelled = self.diagram.labelled_arrows(label);
+        if labelled.len() < own.len() {
+            labelled
+        } else {
+            own
+        }
+    }
+
+    /// The same for every arrow of the file. Only the automaton's own lead out of it, and only by the event's label, so the others are not looked at.
     pub(crate) fn fire(
         &self,
         part: Part,
@@ -67,7 +86,11 @@ impl Search<'_> {
         ensures stays { Stays out.old out.new }
         ensures adds { (g : Guards) → Agrees self.now.diagram.now self.now.answers.now g → Added (RowsOfArrows self.now part states.now row.now g) out.old out.new result }
     {
-        for (number, arrow) in self.diagram.procedure().arrows().iter().enumerate() {
+        let arrows = self.diagram.procedure().arrows();
+        let numbers = self.looked_at(part.node);
+        for short in numbers {
+            let number = usize::from(*short);
+            let arrow = &arrows[number];
             self.follow(number, arrow, part, states, row, out)?;
         }
         Ok(())

@@ -11,7 +11,7 @@ ghost use Rattle.answers.specs.Answering.{Agrees};
 ghost use Rattle.search.specs.Searching.{IsArrow, LeadsFrom};
 
 use crate::search::Search;
-use diagram::candidates::value_of;
+use answers::carrying::carries;
 use diagram::part::Part;
 use diagram::scope::Scope;
 use notation::arrow::Arrow;
@@ -30,15 +30,12 @@ impl Search<'_> {
     fn carries(&self, arrow: &Arrow, scope: Scope) -> bool
         ensures { Decides result (Carries arrow.now self.now.answers.now.event scope.variables) }
     {
-        let event = self.answers.event();
-        arrow.label == event.label
-            && value_of(arrow.first, scope.variables) == event.first_argument()
-            && value_of(arrow.second, scope.variables) == event.second_argument()
+        carries(arrow, self.answers.event(), scope.variables)
     }
 
-    /// Whether an arrow with the event's label may go by its guard, if it has one.
+    /// Whether an arrow that carries the event may go by its guard, if it has one.
     fn allowed(&self, number: usize, arrow: &Arrow, scope: Scope) -> bool
-        ensures { (g : Guards) → Agrees self.now.diagram.now self.now.answers.now g → IsArrow self.now.diagram.now number arrow.now → arrow.now.label ≡ self.now.answers.now.event.label
+        ensures { (g : Guards) → Agrees self.now.diagram.now self.now.answers.now g → IsArrow self.now.diagram.now number arrow.now → Carries arrow.now self.now.answers.now.event scope.variables
             → Suits (values_of self.now.diagram.now.plan.values) (binders_at self.now.diagram.now.binders arrow.now.node) scope → result ≡ guard_holds g arrow.now.guard scope.variables }
     {
         arrow.guard.is_none() || self.answers.of_arrow(number, scope)

@@ -5,5 +5,5 @@ use diagram::diagram::Diagram;
 #[derive(Clone, Copy)]
 pub struct Search<'a> {
     pub diagram: &'a Diagram,
-    pub answers: &'a Answers,
+    pub answers: &'a Answers<'a>,
 }

@@ -1,5 +1,5 @@
 use crate::drawing::File;
-use answers::answers::Answers;
+use answers::answers::Entries;
 use diagram::diagram::Diagram;
 use diagram::part::Part;
 use event::event::Event;
@@ -63,7 +63,8 @@ pub(crate) fn finished(diagram: &Diagram, row: &Row) -> bool {
 
 /// Whether an event moves the root of a row.
 pub(crate) fn moves<H: GuardHost>(diagram: &Diagram, host: &H, event: Event, row: &Row) -> bool {
-    let answers = &Answers::of(diagram, host, event);
+    let mut entries = Entries::<64, 256>::none();
+    let answers = &entries.ask(diagram, host, event);
     match Part::root(diagram) {
         None => false,
         Some(root) => Search { diagram, answers }.can_move(root, row),
@@ -75,13 +76,14 @@ pub(crate) fn each<H: GuardHost>(
     diagram: &Diagram,
     host: &H,
     event: Event,
-    rows: &Ordered<Row>,
+    rows: &[Row],
     out: &mut Ordered<Row>,
 ) -> Result<(), Overflow> {
-    let answers = &Answers::of(diagram, host, event);
+    let mut entries = Entries::<64, 256>::none();
+    let answers = &entries.ask(diagram, host, event);
     match Part::root(diagram) {
         None => Ok(()),
-        Some(root) => Search { diagram, answers }.each(root, rows.as_slice(), out),
+        Some(root) => Search { diagram, answers }.each(root, rows, out),
     }
 }
 
@@ -97,11 +99,11 @@ fn has(row: &Row, cells: &[u16]) -> bool {
 }
 
 /// Whether these are the rows of a list, and so finished.
-fn alike(diagram: &Diagram, rows: &Ordered<Row>, expected: &[State]) -> bool {
+fn alike(diagram: &Diagram, rows: &[Row], expected: &[State]) -> bool {
     if rows.len() != expected.len() {
         return false;
     }
-    for (row, (cells, done)) in rows.as_slice().iter().zip(expected) {
+    for (row, (cells, done)) in rows.iter().zip(expected) {
         if !has(row, cells) || finished(diagram, row) != *done {
             return false;
         }
@@ -132,22 +134,20 @@ impl Drawing<'_> {
         let mut places = [begun(&diagram); 128];
         let mut used = 1;
         assert!(rt;
-            alike(&diagram, &Ordered::resume(&mut places, 1), &[self.begins]),
+            alike(&diagram, &places[..1], &[self.begins]),
             "{name} begins"
         );
         for (fields, expected) in chain {
             let event = event(fields);
             let mut further = [BLANK; 128];
             let mut out = Ordered::over(&mut further);
-            let answer = each(
-                &diagram,
-                host,
-                event,
-                &Ordered::resume(&mut places, used),
-                &mut out,
-            );
+            let answer = each(&diagram, host, event, &places[..used.min(128)], &mut out);
             assert_eq!(rt; answer, Ok(()), "{name}: {:?}", event);
-            assert!(rt; alike(&diagram, &out, expected), "{name}: {:?}", event);
+            assert!(rt;
+                alike(&diagram, out.as_slice(), expected),
+                "{name}: {:?}",
+                event
+            );
             used = out.len();
             places = further;
             host.tell(event);

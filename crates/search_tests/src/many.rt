@@ -18,9 +18,7 @@ fn rows_after_5<H: GuardHost>(
     let diagram = file.diagram(0, count).expect(rt, "the file is sound");
     let mut places = [BLANK; 128];
     let mut out = Ordered::over(&mut places[..room.min(128)]);
-    let mut first = [begun(&diagram)];
-    let rows = Ordered::resume(&mut first, 1);
-    each(&diagram, host, event(&[5]), &rows, &mut out)?;
+    each(&diagram, host, event(&[5]), &[begun(&diagram)], &mut out)?;
     Ok(out.len())
 }
 
@@ -40,6 +38,12 @@ fn every_instance_has_two_ways(rt: HostRuntime) {
         (1, 0, Err(Overflow)),
         (1, 1, Err(Overflow)),
         (1, 2, Ok(2)),
+        (3, 7, Err(Overflow)),
+        (3, 8, Ok(8)),
+        (3, 9, Ok(8)),
+        (4, 8, Err(Overflow)),
+        (4, 9, Err(Overflow)),
+        (4, 16, Ok(16)),
         (7, 127, Err(Overflow)),
         (7, 128, Ok(128)),
         (8, 128, Err(Overflow)),
@@ -141,21 +145,48 @@ fn nested(to_the_left: bool, second: u16, stuck: u16) -> File {
 #[test]
 fn sixteen_sides(rt: HostRuntime) {
     let cases = [
-        (2, 16, Err(Overflow)),
-        (1, 16, Ok(1)),
-        (2, 0, Ok(0)),
-        (2, 15, Ok(0)),
+        (2, 16, 128, Err(Overflow)),
+        (2, 16, 8, Err(Overflow)),
+        (1, 16, 128, Ok(1)),
+        (1, 16, 8, Ok(1)),
+        (2, 0, 128, Ok(0)),
+        (2, 15, 8, Ok(0)),
     ];
-    for (second, stuck, expected) in cases {
+    for (second, stuck, room, expected) in cases {
         for to_the_left in [false, true] {
             let file = nested(to_the_left, second, stuck);
             assert_eq!(rt;
-                rows_after_5(&rt, &file, 0, &no_8(), 128),
+                rows_after_5(&rt, &file, 0, &no_8(), room),
                 expected,
-                "{second}, {stuck}"
+                "{second}, {stuck}, {room} places"
             );
         }
     }
+}
+
+/// Thirty-one automata and then sixteen instances in a chain of synchronisations on 5. The first seven automata have two ways to go, and
+/// every other part has one.
+fn chained() -> File {
+    let mut file = File::of(&[THREE, &[ARROW, 0, 0, 1, 5], &[ALL, 0, 0, 1, 5]]);
+    for i in 0..31u16 {
+        let node = 2 * i + 2;
+        file.draw(THREE);
+        file.draw(&[ARROW, node, 0, 1, 5]);
+        if i > 23 {
+            file.draw(&[ARROW, node, 0, 2, 5]);
+        }
+        file.draw(&[SYNCHRONISATION, node, node - 1, 1, 5]);
+    }
+    file
+}
+
+/// Forty-seven parts, each of which moves in each of the rows that those before it give.
+#[test]
+fn a_chain_of_parts(rt: HostRuntime) {
+    let file = chained();
+    assert_eq!(rt; rows_after_5(&rt, &file, 16, &no_8(), 128), Ok(128));
+    assert_eq!(rt; rows_after_5(&rt, &file, 16, &no_8(), 127), Err(Overflow));
+    assert_eq!(rt; rows_after_5(&rt, &file, 16, &no_8(), 8), Err(Overflow));
 }
 
 /// From state 0 to 1 and to 2 on 5, to 1 on 6.
@@ -176,9 +207,7 @@ fn beside(rt: &impl Abort, state: u16, label: u16, room: usize) -> Result<usize,
     let mut places = [BLANK; 4];
     let mut out = Ordered::over(&mut places[..room.min(4)]);
     out.insert(held);
-    let mut first = [BLANK];
-    let rows = Ordered::resume(&mut first, 1);
-    each(&diagram, &no_8(), event(&[label]), &rows, &mut out)?;
+    each(&diagram, &no_8(), event(&[label]), &[BLANK], &mut out)?;
     Ok(out.len())
 }
 

@@ -52,14 +52,13 @@ fn moved_by(diagram: &Diagram, row: &Row, expected: &[&[u16]]) -> bool {
 /// The axles 1, 2, 3, in the row after an event, or at first.
 fn axle_menu(rt: &impl Abort, taken: Option<&[u16]>, expected: &[&[u16]]) -> bool {
     let diagram = File::of(AXLE).diagram(1, 3).expect(rt, "the file is sound");
-    let mut first = [begun(&diagram)];
+    let first = [begun(&diagram)];
     let Some(taken) = taken else {
         return moved_by(&diagram, &first[0], expected);
     };
-    let rows = Ordered::resume(&mut first, 1);
     let mut places = [begun(&diagram); 2];
     let mut out = Ordered::over(&mut places);
-    let answer = each(&diagram, &no_8(), event(taken), &rows, &mut out);
+    let answer = each(&diagram, &no_8(), event(taken), &first, &mut out);
     assert_eq!(rt; answer, Ok(()));
     match out.as_slice() {
         [row] => moved_by(&diagram, row, expected),

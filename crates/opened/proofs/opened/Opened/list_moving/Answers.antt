@@ -5,8 +5,8 @@ use Rattle.ordered.specs.Held.{room}
 use Rattle.event.specs.declared.event.Event.{Event}
 use Rattle.opened.specs.Listing.{MovesSome}
 use Rattle.opened.proofs.Putting.{keep-same, keep-more, keep-next}
-use Rattle.opened.proofs.Listed.{listed-none, passed-by, put-there, short-now, short-still}
-use Rattle.opened.proofs.opened.Opened.list_moving.Goals.{then-moves+then-insert, else-moves, else-moves-via-then-moves+else-insert, else-moves-via-else-moves}
+use Rattle.opened.proofs.Listed.{listed-none, passed-by, held-there, put-there, short-now, short-still}
+use Rattle.opened.proofs.opened.Opened.list_moving.Goals.{then-not-has+then-moves+then-insert, else-not-has, else-not-has-via-then-not-has+then-moves+else-insert, else-not-has-via-then-not-has+else-moves, else-not-has-via-else-not-has}
 use Rattle.opened.proofs.opened.Opened.list_moving.Goals as goal
 
 abbrev blank : Event
@@ -26,11 +26,11 @@ loop-event-preserved g c =
     let n = c.loop-event.event-index in
     let M = MovesSome c.args.self.now (g.H.GuardHost.meaning c.args.host.now) in
     let b = λ (others : List Event). nat_lt (room c.args.out.now) (length others) in
-    elim c.if-moves.branch [
-      | then-moves+then-insert w ↦
+    elim c.if-not-has.branch [
+      | then-not-has+then-moves+then-insert w ↦
           let new = w.insert.new.self in
           let e = w.insert.ensures in
-          let moved = sym c.moves.ensures ∙ w.if-moves.true in
+          let moved = sym w.moves.ensures ∙ w.if-moves.true in
           rw (w.out-is, w.short-is)
           (record {
             lists = λ others is.
@@ -39,11 +39,11 @@ loop-event-preserved g c =
             keeps = keep-more c.args.out.now o new i.keeps (keep-next o new e.keeps_its_room e.holds_no_fewer e.leaves_later_places);
             lender = e.keeps_its_lender ∙ i.lender;
           })
-      | else-moves w ↦ elim w.else-moves.branch [
-        | else-moves-via-then-moves+else-insert w' ↦
+      | else-not-has w ↦ elim w.else-not-has.branch [
+        | else-not-has-via-then-not-has+then-moves+else-insert w' ↦
             let new = w'.insert.new.self in
             let e = w'.insert.ensures in
-            let moved = sym c.moves.ensures ∙ w'.if-moves.true in
+            let moved = sym w'.moves.ensures ∙ w'.if-moves.true in
             rw (w.out-is, w.short-is, w'.out-is)
             (record {
               lists = λ others is.
@@ -52,11 +52,19 @@ loop-event-preserved g c =
               keeps = keep-more c.args.out.now o new i.keeps (keep-next o new e.keeps_its_room e.holds_no_fewer e.leaves_later_places);
               lender = e.keeps_its_lender ∙ i.lender;
             })
-        | else-moves-via-else-moves w' ↦
-            let still = sym c.moves.ensures ∙ w'.if-moves.false in
+        | else-not-has-via-then-not-has+else-moves w' ↦
+            let still = sym w'.moves.ensures ∙ w'.if-moves.false in
             rw (w.out-is, w.short-is, w'.out-is)
             (record {
               lists = λ others is. passed-by M others c.args.events.now n blank c.loop-event-test.true o _ (λ t. true≢false (sym t ∙ still)) (i.lists others is);
+              keeps = i.keeps;
+              lender = i.lender;
+            })
+        | else-not-has-via-else-not-has w' ↦
+            let here = c.has.ensures.tells_whether_it_is_held.0 w'.if-not-has.false in
+            rw (w.out-is, w.short-is, w'.out-is)
+            (record {
+              lists = λ others is. held-there M others c.args.events.now n blank c.loop-event-test.true o _ here (i.lists others is);
               keeps = i.keeps;
               lender = i.lender;
             })

@@ -1,34 +1,44 @@
-use Rattle.std.proofs.Common.{◌≡◌, ◌∙◌, ap, List, [], take, Decides, rules}
-use Rattle.std.proofs.lemmas.Iterator.Search.{any_from_yields_List}
-use Rattle.std.proofs.lemmas.Iterator.{YieldsList-from_slice}
-use Rattle.row.specs.declared.row.Row.{Row}
-use Rattle.rules.specs.Candidates.{some_moves, has_one}
-use Rattle.rules.specs.Moves.{moves}
-use Rattle.search.specs.Searching.{successors}
-use Rattle.motions.specs.Ways.{Any}
-use Rattle.rules.specs.Trees.{no_variables}
-use Rattle.rules.specs.Chains.{answers_after}
-use Rattle.rules.specs.Cells.{Cells, fit}
+use Rattle.std.proofs.Common.{sym, ◌∙◌, ap, true, []}
 use Rattle.std.specs.List.{list_any}
 use Rattle.event.specs.declared.event.Event.{Event}
-use Rattle.opened.specs.States.{states_in}
+use Rattle.rules.specs.Trees.{Guards}
+use Rattle.rules.specs.Candidates.{some_moves}
+use Rattle.rules.specs.Chains.{answers_after}
+use Rattle.rules.proofs.Willing.{none-moves}
+use Rattle.diagram.specs.Plans.{arrows_in}
+use Rattle.opened.specs.Guarding.{is_guarded}
+use Rattle.opened.proofs.Unguarded.{unguarded-agrees}
 use Rattle.opened.specs.Opens.{tree_of_opened}
-use Rattle.opened.proofs.Moving.{any-of-map, root-decides}
+use Rattle.opened.specs.States.{states_in}
 use Rattle.opened.proofs.opened.Opened.moves.Goals as goal
 
+-- what would not move if every guard said yes
+pub returns-then-not-moves_by : goal.returns-then-not-moves_by
+returns-then-not-moves_by g c =
+    let o = c.args.self.now in
+    let t = tree_of_opened o in
+    let yes : Guards = λ guard v. true in
+    let tables = c.args.tables.now in
+    let willing = c.to.ensures.agrees_with_a_host_that_says_yes o.diagram c.requires.are_enough tables.says_yes_for_nodes tables.says_yes_for_arrows in
+    let at-event = ap (λ (e : Event). some_moves t yes e (states_in o.held)) c.to.ensures.answers_to_the_event in
+    sym (none-moves t (answers_after (g.H.GuardHost.meaning c.args.host.now) [] c.args.event) c.args.event (states_in o.held) (sym at-event ∙ sym (c.moves_by.ensures yes willing) ∙ c.if-not-moves_by.true))
+
+-- what would, where no guard has a say
+pub returns-then-not-has_guarded_arrow : goal.returns-then-not-has_guarded_arrow
+returns-then-not-has_guarded_arrow g c =
+    let o = c.args.self.now in
+    let a = c.to.result in
+    let guards = answers_after (g.H.GuardHost.meaning c.args.host.now) [] c.args.event in
+    let no-node = sym c.has_guard.ensures ∙ c.if-not-has_guard.true in
+    let no-arrow = sym c.has_guarded_arrow.ensures ∙ c.if-not-has_guarded_arrow.true in
+    let same-label = ap (λ (e : Event). list_any (is_guarded e.label) (arrows_in o.diagram.plan)) c.to.ensures.answers_to_the_event in
+    sym c.if-not-moves_by.false
+    ∙ c.moves_by.ensures guards (unguarded-agrees o.diagram a guards no-node (same-label ∙ no-arrow))
+    ∙ ap (λ (e : Event). some_moves (tree_of_opened o) guards e (states_in o.held)) c.to.ensures.answers_to_the_event
+
+-- what the host was asked for
 pub returns : goal.returns
 returns g c =
     let o = c.args.self.now in
-    let a = c.of-answers.result in
-    let t = tree_of_opened o in
     let guards = answers_after (g.H.GuardHost.meaning c.args.host.now) [] c.args.event in
-    let cells = λ (row : Row). fit o.held.width row.cells in
-    let test = λ (r : Cells). has_one (moves t guards a.event no_variables r) in
-    let e = any_from_yields_List (λ (row : Row). test (cells row)) _ _ c.any.result c.any.ensures.ran (YieldsList-from_slice c.rows.result.now c.iter.ensures.rest)
-    (λ x b q k.
-    let d : (q ≡ _) × Decides b (Any (successors o.diagram a guards o.root x.now)) = (search rules, search rules) in
-    (d.0, root-decides o a guards x.now b d.1)) in
-    e
-    ∙ ap (λ (l : List Row). list_any (λ (row : Row). test (cells row)) l) c.rows.ensures.are_those_in_use
-    ∙ any-of-map test cells (take o.held.used o.held.rows)
-    ∙ ap (λ (e : Event). some_moves t guards e (states_in o.held)) c.of-answers.ensures.answers_to_the_event
+    c.moves_by-2.ensures guards c.ask.ensures.agrees_with_the_host ∙ ap (λ (e : Event). some_moves (tree_of_opened o) guards e (states_in o.held)) c.ask.ensures.answers_to_the_event

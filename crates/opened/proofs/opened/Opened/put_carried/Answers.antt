@@ -1,7 +1,6 @@
-use Rattle.std.proofs.Common.{◌≡◌, ◌∙◌, refl, ap, subst, ℕ, length, arith}
+use Rattle.std.proofs.Common.{◌≡◌, ◌∙◌, refl, ap, length, arith}
 use Rattle.ordered.specs.Held.{held}
-use Rattle.opened.specs.Listing.{PutIn, CarriedBelow}
-use Rattle.opened.proofs.Putting.{put-none, put-outer, put-exactly, keep-same, keep-more}
+use Rattle.opened.proofs.Putting.{put-none, put-outer, put-outers, put-exactly, keep-same, keep-more}
 use Rattle.opened.proofs.opened.Opened.put_carried.Goals as goal
 
 pub loop-outer-init : goal.loop-outer-init
@@ -25,7 +24,8 @@ loop-outer-preserved c =
 
 pub returns-clause-puts_these : goal.returns-clause-puts_these
 returns-clause-puts_these c none wide =
-    let all : c.loop-outer.outer ≡ 17 = omega arith in
     let empty : length (held c.args.out.now) ≡ 0 = ap length none in
-    let puts = c.loop-outer.invariant.puts (omega arith) in
-    put-exactly _ (held c.args.out.now) _ none (subst (λ (n : ℕ). PutIn (CarriedBelow c.args.self.now.diagram c.args.arrow n) (held c.args.out.now) (held c.loop-outer.out)) all puts)
+    let bound = c.outer_positions-outer-end.ensures in
+    put-exactly _ (held c.args.out.now) _ none
+    (put-outers c.args.self.now.diagram c.args.arrow c.outer_positions-outer-end.result c.loop-outer.outer _ _ bound.bounds_those_of_candidates (omega arith) (omega (arith, bound.is_17_at_most))
+    (c.loop-outer.invariant.puts (omega (arith, bound.is_17_at_most))))

@@ -1,4 +1,5 @@
 use Rattle.std.proofs.Common.{◌≡◌, ℕ, ◌+◌, ◌-◌, Decides, slice_index, length, Bool, List, suc, arith, subst, sym, ap, ◌∙◌, refl, ◌&&◌, true≢false, ◌==◌}
+use mathlib.Core.List.{Memᴰ}
 use Rattle.ordered.specs.Held.{held, room}
 use Rattle.row.specs.declared.row.Row.{Row}
 use Rattle.notation.specs.declared.node.Node.TheVariants.{Automaton}
@@ -17,8 +18,8 @@ use Rattle.diagram.proofs.Opens.{opens}
 use Rattle.search.proofs.Fires.{state-inside}
 use Rattle.search.proofs.Chosen.{StartsFrom, Resumes, BehindTag, bound-behind, starts-past, starts-over, starts-added, resumes-past, resumes-here, choice-starts, choice-resumes}
 use Rattle.search.proofs.Automata.{fired-over, childless-added, state-added, state-behind}
-use Rattle.search.proofs.Sides.{room-decides, reached-any, any-reached, sides-full, sides-over, sides-added, together-added, apart-added}
-use Rattle.search.proofs.Instances.{value-there, value-past, past, past-body, instance, instance-in-place, none-can, none-moves, none-added, can-both, first-can, still-can, all-added, all-over, one-added, one-over, each-alone, all-together, no-room, no-value, not-all, values-some, values-none, bound-inside}
+use Rattle.search.proofs.Sides.{room-decides, reached-any, any-reached, sides-full, sides-over, sides-added, right-can, sides-can, together-added, apart-added}
+use Rattle.search.proofs.Instances.{value-there, value-past, past, past-body, past-bound, past-inside, instance, instance-in-place, none-can, none-moves, none-added, can-both, first-can, still-can, all-can, all-added, all-over, one-added, one-over, each-alone, all-together, no-room, no-value, not-all, values-some, values-none, bound-inside}
 use Rattle.search.proofs.Rounds.{early, row-in, after-rounds, next-round, last-round}
 use Rattle.search.proofs.search.Search.+collecting.Goals.{quantified_synchronisation-then-is_empty-via-then-is_empty, quantified_synchronisation-then-is_empty-via-else-is_empty+then-not-all_can, sequence-then-tag-eq0, sequence-else-tag-eq0, guard-then-tag-eq0, guard-else-tag-eq0}
 use Rattle.diagram.specs.Scopes.{binders_at}
@@ -82,29 +83,36 @@ all_can-returns-else-can_move t c =
     (λ t. absurd (true≢false (sym t ∙ c.if-can_move.false)), λ any. first.1 (first-can d a g c.args.over c.args.body c.args.k x some c.bound.result c.of-next.result i next c.args.row.now any))
 
 -- src/collecting.rt:320:17
-pub all_instances-collect-requires : goal.all_instances-collect-requires
-all_instances-collect-requires t c =
+pub all_instances_in-collect_movable-requires : goal.all_instances_in-collect_movable-requires
+all_instances_in-collect_movable-requires t c =
     let d = c.args.self.now.diagram.now in
-    let x = c.in-Some.x.now in
-    let told = c.in-Some.ensures.lookup in
-    let some = value-there _ _ c.args.k x c.values.ensures.tells_the_values told.3.0 told.1 in
+    let x = c.args.x in
+    let some = c.requires.is_its_value in
     let i = instance c.args.body c.bound.result x c.bound.ensures.keeps_the_cells c.bound.ensures.binds in
     let suits = c.bound.ensures.suits_what_is_below (values_of d.plan.values) (binders_at d.binders c.args.part.node) c.args.over c.args.k c.requires.is_bound.suits (omega arith) some in
     (omega arith, instance-in-place d c.args.part c.args.over c.args.body c.bound.result c.args.k x c.requires.is_bound c.requires.are_inside some i suits)
 
+-- src/collecting.rt:543:9
+pub all_instances_in-all_instances_of_each-requires :
+    goal.all_instances_in-all_instances_of_each-requires
+all_instances_in-all_instances_of_each-requires t c =
+    let d = c.args.self.now.diagram.now in
+    let next = past-body d c.args.body c.of-next.result c.width.result c.from.result c.from.ensures c.width.ensures.is_the_width c.of-next.ensures.is_the_nodes in
+    (omega arith, (past-bound d c.args.part c.args.over c.args.body c.of-next.result next c.requires.is_bound, past-inside d c.args.over c.args.body c.of-next.result c.args.k c.args.x next c.requires.is_its_value c.requires.are_inside))
+
 -- src/collecting.rt:320:17
-pub all_instances-returns-in_err-collect-in-Some-clause-adds :
-    goal.all_instances-returns-in_err-collect-in-Some-clause-adds
-all_instances-returns-in_err-collect-in-Some-clause-adds t c =
+pub all_instances_in-returns-in_err-collect_movable-clause-adds :
+    goal.all_instances_in-returns-in_err-collect_movable-clause-adds
+all_instances_in-returns-in_err-collect_movable-clause-adds t c =
     let d = c.args.self.now.diagram.now in
     let a = c.args.self.now.answers.now in
-    let x = c.in-Some.x.now in
-    let told = c.in-Some.ensures.lookup in
-    let some = value-there _ _ c.args.k x c.values.ensures.tells_the_values told.3.0 told.1 in
+    let x = c.args.x in
+    let some = c.requires.is_its_value in
     let i = instance c.args.body c.bound.result x c.bound.ensures.keeps_the_cells c.bound.ensures.binds in
-    let lent : room c.over-moved.result ≡ 128 = ap (λ (l : List Row). length l) c.over-moved.ensures.lends_these_places in
-    λ g agrees r any.
-    early _ c.args.out.now c.args.out.now c.from_residual.result c.from_residual.ensures.0 (λ k. all-over d a g c.args.over c.args.body c.args.k x some c.bound.result (past d c.args.body) i refl c.args.row.now c.requires.are_inside c.args.out.now c.over-moved.result (omega arith) c.over-moved.ensures.holds_nothing any (c.in_err-collect-in-Some.ensures.adds_the_successors g agrees (omega arith)))
+    let lent : room c.over-moved.result ≡ length c.args.places.now = ap (λ (l : List Row). length l) c.over-moved.ensures.lends_these_places in
+    let few = c.requires.are_few_enough in
+    λ fits g agrees r any.
+    early _ c.args.out.now c.args.out.now c.from_residual.result c.from_residual.ensures.0 (λ k. all-over d a g c.args.over c.args.body c.args.k x some c.bound.result (past d c.args.body) i refl c.args.row.now c.requires.are_inside c.args.out.now c.over-moved.result (omega arith) c.over-moved.ensures.holds_nothing any (c.in_err-collect_movable.ensures.adds g agrees (omega arith) (first-can d a g c.args.over c.args.body c.args.k x some c.bound.result (past d c.args.body) i refl c.args.row.now any)))
 
 -- src/collecting.rt:307:5
 pub all_instances-returns-in-None-clause-adds : goal.all_instances-returns-in-None-clause-adds
@@ -115,22 +123,22 @@ all_instances-returns-in-None-clause-adds t c =
     λ g agrees r any. none-added d a g c.args.over c.args.body c.args.k c.args.row.now none c.args.out.now c.put.new.out c.put.result c.put.ensures.adds
 
 -- src/collecting.rt:307:5
-pub all_instances-returns-in_ok-collect-in-Some-clause-adds :
-    goal.all_instances-returns-in_ok-collect-in-Some-clause-adds
-all_instances-returns-in_ok-collect-in-Some-clause-adds t c =
+pub all_instances_in-returns-clause-adds :
+    goal.all_instances_in-returns-clause-adds
+all_instances_in-returns-clause-adds t c =
     let d = c.args.self.now.diagram.now in
     let a = c.args.self.now.answers.now in
-    let x = c.in-Some.x.now in
-    let told = c.in-Some.ensures.lookup in
-    let some = value-there _ _ c.args.k x c.values.ensures.tells_the_values told.3.0 told.1 in
+    let x = c.args.x in
+    let some = c.requires.is_its_value in
     let i = instance c.args.body c.bound.result x c.bound.ensures.keeps_the_cells c.bound.ensures.binds in
     let next = past-body d c.args.body c.of-next.result c.width.result c.from.result c.from.ensures c.width.ensures.is_the_width c.of-next.ensures.is_the_nodes in
-    let lent : room c.over-moved.result ≡ 128 = ap (λ (l : List Row). length l) c.over-moved.ensures.lends_these_places in
+    let lent : room c.over-moved.result ≡ length c.args.places.now = ap (λ (l : List Row). length l) c.over-moved.ensures.lends_these_places in
+    let few = c.requires.are_few_enough in
     let empty = c.over-moved.ensures.holds_nothing in
-    λ g agrees r any.
-    let first = c.in_ok-collect-in-Some.ensures.adds_the_successors g agrees (omega arith) in
-    all-added d a g c.args.over c.args.body c.args.k x some c.bound.result c.of-next.result i next c.args.row.now c.requires.are_inside c.args.out.now c.all_instances_of_each.new.out c.over-moved.result c.collect.new.out c.all_instances_of_each.result empty first
-    (c.all_instances_of_each.ensures.adds g agrees r (still-can d a g c.args.over c.args.body c.args.k x some c.bound.result c.of-next.result i next c.args.row.now c.requires.are_inside c.over-moved.result c.collect.new.out empty first any))
+    λ fits g agrees r any.
+    let first = c.in_ok-collect_movable.ensures.adds g agrees (omega arith) (first-can d a g c.args.over c.args.body c.args.k x some c.bound.result c.of-next.result i next c.args.row.now any) in
+    all-added d a g c.args.over c.args.body c.args.k x some c.bound.result c.of-next.result i next c.args.row.now c.requires.are_inside c.args.out.now c.all_instances_of_each.new.out c.over-moved.result c.collect_movable.new.out c.all_instances_of_each.result empty first
+    (c.all_instances_of_each.ensures.adds g agrees r (still-can d a g c.args.over c.args.body c.args.k x some c.bound.result c.of-next.result i next c.args.row.now c.requires.are_inside c.over-moved.result c.collect_movable.new.out empty first any))
 
 -- src/collecting.rt:338:13
 pub all_instances_of_each-returns-in_err-all_instances-clause-stays :
@@ -220,27 +228,41 @@ both_sides-returns-then-room-eq0-clause-adds t c =
     let second = (c.can_move-else-not-can_move.ensures.decides_whether_there_is_a_successor g agrees).0 c.if-not-can_move-2.false in
     sides-full d a g c.args.part c.args.left c.args.right c.args.row.now c.requires.are_beside c.requires.are_inside c.args.out.now (sym c.room.ensures.counts_the_places ∙ c.if-room-eq0.true) first second
 
--- src/collecting.rt:177:9
-pub both_sides-returns-in_err-collect-clause-adds :
-    goal.both_sides-returns-in_err-collect-clause-adds
-both_sides-returns-in_err-collect-clause-adds t c =
+-- src/collecting.rt:228:9
+pub both_move_in-returns-in_err-collect_movable-clause-adds :
+    goal.both_move_in-returns-in_err-collect_movable-clause-adds
+both_move_in-returns-in_err-collect_movable-clause-adds t c =
     let d = c.args.self.now.diagram.now in
     let a = c.args.self.now.answers.now in
-    let lent : room c.over-moved.result ≡ 128 = ap (λ (l : List Row). length l) c.over-moved.ensures.lends_these_places in
-    λ g agrees r.
-    let second = (c.can_move-else-not-can_move.ensures.decides_whether_there_is_a_successor g agrees).0 c.if-not-can_move-2.false in
+    let lent : room c.over-moved.result ≡ length c.args.places.now = ap (λ (l : List Row). length l) c.over-moved.ensures.lends_these_places in
+    let few = c.requires.are_few_enough in
+    λ fits g agrees r can.
     early _ c.args.out.now c.args.out.now c.from_residual.result c.from_residual.ensures.0
-    (λ h. sides-over d a g c.args.part c.args.left c.args.right c.args.row.now c.requires.are_beside c.requires.are_inside c.args.out.now c.over-moved.result (omega arith) c.over-moved.ensures.holds_nothing second (c.in_err-collect.ensures.adds_the_successors g agrees (omega arith)))
+    (λ h. sides-over d a g c.args.part c.args.left c.args.right c.args.row.now c.requires.are_beside c.requires.are_inside c.args.out.now c.over-moved.result (omega arith) c.over-moved.ensures.holds_nothing can.1 (c.in_err-collect_movable.ensures.adds g agrees (omega arith) can.0))
+
+-- src/collecting.rt:228:9
+pub both_move_in-returns-clause-adds : goal.both_move_in-returns-clause-adds
+both_move_in-returns-clause-adds t c =
+    let d = c.args.self.now.diagram.now in
+    let a = c.args.self.now.answers.now in
+    let lent : room c.over-moved.result ≡ length c.args.places.now = ap (λ (l : List Row). length l) c.over-moved.ensures.lends_these_places in
+    let few = c.requires.are_few_enough in
+    let empty = c.over-moved.ensures.holds_nothing in
+    let told = c.as_slice.ensures.tells_what_is_held in
+    λ fits g agrees r can.
+    let first = c.in_ok-collect_movable.ensures.adds g agrees (omega arith) can.0 in
+    let still = right-can d a g c.args.part c.args.left c.args.right c.args.row.now c.requires.are_beside c.requires.are_inside c.over-moved.result c.collect_movable.new.out empty first can.1 in
+    sides-added d a g c.args.part c.args.left c.args.right c.args.row.now c.requires.are_beside c.requires.are_inside c.args.out.now c.each_movable.new.out c.over-moved.result c.collect_movable.new.out c.each_movable.result empty first
+    (subst (λ (l : List Row). Added (λ y. FromEach l (λ x z. Reached d a g c.args.right x z) y) c.args.out.now c.each_movable.new.out c.each_movable.result) told
+    (c.each_movable.ensures.adds g agrees r (λ y i. still y (subst (λ (l : List Row). Memᴰ y l) told i))))
 
 -- src/collecting.rt:161:5
 pub both_sides-returns-clause-adds : goal.both_sides-returns-clause-adds
 both_sides-returns-clause-adds t c =
-    let d = c.args.self.now.diagram.now in
-    let a = c.args.self.now.answers.now in
-    let lent : room c.over-moved.result ≡ 128 = ap (λ (l : List Row). length l) c.over-moved.ensures.lends_these_places in
     λ g agrees r.
-    sides-added d a g c.args.part c.args.left c.args.right c.args.row.now c.requires.are_beside c.requires.are_inside c.args.out.now c.each.new.out c.over-moved.result c.collect.new.out c.each.result c.over-moved.ensures.holds_nothing
-    (c.in_ok-collect.ensures.adds_the_successors g agrees (omega arith)) (subst (λ (l : List Row). Added (λ y. FromEach l (λ x z. Reached d a g c.args.right x z) y) c.args.out.now c.each.new.out c.each.result) c.as_slice.ensures.tells_what_is_held (c.each.ensures.adds_the_successors_of_each g agrees r))
+    let first = (c.can_move.ensures.decides_whether_there_is_a_successor g agrees).0 c.if-not-can_move.false in
+    let second = (c.can_move-else-not-can_move.ensures.decides_whether_there_is_a_successor g agrees).0 c.if-not-can_move-2.false in
+    c.both_move.ensures.adds g agrees r (first, second)
 
 -- src/collecting.rt:398:5
 pub can_move-returns : goal.can_move-returns
@@ -393,46 +415,48 @@ closure-returns-clause-adds t c g agrees few =
     done-2 (Reached d a g p row) X1 X2 rows o c.start.new.out c.resume.new.out c.resume.result s.stays (s.adds g agrees few) (c.resume.ensures.adds g agrees (still-few o c.start.new.out 128 s.stays few))
 
 -- src/collecting.rt:207:13
-pub each-returns-in_err-collect-clause-stays : goal.each-returns-in_err-collect-clause-stays
-each-returns-in_err-collect-clause-stays t c =
-    stays-then c.args.out.now c.loop-row.out c.collect.new.out c.loop-row.invariant.0 c.collect.ensures.stays
+pub each_movable-returns-in_err-collect_movable-clause-stays : goal.each_movable-returns-in_err-collect_movable-clause-stays
+each_movable-returns-in_err-collect_movable-clause-stays t c =
+    stays-then c.args.out.now c.loop-row.out c.collect_movable.new.out c.loop-row.invariant.0 c.collect_movable.ensures.stays
 
 -- src/collecting.rt:207:13
-pub each-returns-in_err-collect-clause-adds_the_successors_of_each :
-    goal.each-returns-in_err-collect-clause-adds_the_successors_of_each
-each-returns-in_err-collect-clause-adds_the_successors_of_each t c =
+pub each_movable-returns-in_err-collect_movable-clause-adds :
+    goal.each_movable-returns-in_err-collect_movable-clause-adds
+each_movable-returns-in_err-collect_movable-clause-adds t c =
     let stays = c.loop-row.invariant.0 in
     let same = stays.room in
-    λ g agrees r.
-    early _ c.args.out.now c.collect.new.out c.from_residual.result c.from_residual.ensures.0
+    let inside = row-in c.args.rows.now c.args.rows.now refl c.loop-row.row-index c.row-item.result c.loop-row-test.true c.row-item.is in
+    λ g agrees r can.
+    early _ c.args.out.now c.collect_movable.new.out c.from_residual.result c.from_residual.ensures.0
     (last-round c.args.rows.now c.args.rows.now (λ x y. Reached c.args.self.now.diagram.now c.args.self.now.answers.now g c.args.part x y) refl c.loop-row.row-index c.row-item.result c.loop-row-test.true c.row-item.is c.args.out.now c.loop-row.out stays
-    (c.loop-row.invariant.1 g agrees r)
-    (c.in_err-collect.ensures.adds_the_successors g agrees (omega arith)))
+    (c.loop-row.invariant.1 g agrees r can)
+    (c.in_err-collect_movable.ensures.adds g agrees (omega arith) (can c.row-item.result inside)))
 
 -- src/collecting.rt:199:5
-pub each-returns-clause-stays : goal.each-returns-clause-stays
-each-returns-clause-stays t c =
+pub each_movable-returns-clause-stays : goal.each_movable-returns-clause-stays
+each_movable-returns-clause-stays t c =
     c.loop-row.invariant.0
 
 -- src/collecting.rt:199:5
-pub each-returns-clause-adds_the_successors_of_each :
-    goal.each-returns-clause-adds_the_successors_of_each
-each-returns-clause-adds_the_successors_of_each t c =
-    λ g agrees r.
+pub each_movable-returns-clause-adds :
+    goal.each_movable-returns-clause-adds
+each_movable-returns-clause-adds t c =
+    λ g agrees r can.
     after-rounds c.args.rows.now c.args.rows.now (λ x y. Reached c.args.self.now.diagram.now c.args.self.now.answers.now g c.args.part x y) refl c.loop-row.row-index c.args.out.now c.loop-row.out c.loop-row-test.false
-    (c.loop-row.invariant.1 g agrees r)
+    (c.loop-row.invariant.1 g agrees r can)
 
 -- src/collecting.rt:206:9
-pub each-loop-row-preserved : goal.each-loop-row-preserved
-each-loop-row-preserved t c =
+pub each_movable-loop-row-preserved : goal.each_movable-loop-row-preserved
+each_movable-loop-row-preserved t c =
     let stays = c.loop-row.invariant.0 in
-    let same = stays.room in (
-      stays-then c.args.out.now c.loop-row.out c.collect.new.out stays c.in_ok-collect.ensures.stays,
-      λ g agrees r.
+    let same = stays.room in
+    let inside = row-in c.args.rows.now c.args.rows.now refl c.loop-row.row-index c.row-item.result c.loop-row-test.true c.row-item.is in (
+      stays-then c.args.out.now c.loop-row.out c.collect_movable.new.out stays c.in_ok-collect_movable.ensures.stays,
+      λ g agrees r can.
           next-round c.args.rows.now c.args.rows.now (λ x y. Reached c.args.self.now.diagram.now c.args.self.now.answers.now g c.args.part x y) refl c.loop-row.row-index c.row-item.result c.loop-row-test.true c.row-item.is c.args.out.now c.loop-row.out stays
-          (c.loop-row.invariant.1 g agrees r)
-          c.collect.new.out
-          (c.in_ok-collect.ensures.adds_the_successors g agrees (omega arith)),
+          (c.loop-row.invariant.1 g agrees r can)
+          c.collect_movable.new.out
+          (c.in_ok-collect_movable.ensures.adds g agrees (omega arith) (can c.row-item.result inside)),
     )
 
 -- src/collecting.rt:149:5
@@ -482,6 +506,48 @@ guard-returns-clause-adds t c g agrees few =
     let rows = guard-rows d a g p row c.args.number c.args.body holds c.requires.is_guarded c.requires.body_is_behind is in
     let s = c.in_ok-start.ensures in
     done-2 (Reached d a g p row) X1 X2 rows o c.start.new.out c.resume.new.out c.resume.result s.stays (s.adds g agrees few) (c.resume.ensures.adds g agrees (still-few o c.start.new.out 128 s.stays few))
+
+-- src/collecting.rt:1:1
+pub movable_quantified_synchronisation-returns-then-in_set-clause-adds :
+    goal.movable_quantified_synchronisation-returns-then-in_set-clause-adds
+movable_quantified_synchronisation-returns-then-in_set-clause-adds t c =
+    let d = c.args.self.now.diagram.now in
+    let a = c.args.self.now.answers.now in
+    let asked = ap (λ (e : Event). in_set e.label c.args.labels.now.items) (sym c.event.ensures.is_the_event) ∙ sym c.in_set.ensures in
+    λ g agrees r any.
+    let can = all-can d a g c.args.over c.args.part c.args.body (labels_of c.args.labels.now) c.args.row.now c.requires.is_bound.same_scope c.requires.is_first c.requires.is_quantified_synchronisation (asked ∙ c.if-in_set.true) any in
+    all-together d a g c.args.over c.args.part c.args.body (labels_of c.args.labels.now) c.args.row.now c.requires.is_bound.same_scope c.requires.is_first c.requires.is_quantified_synchronisation (asked ∙ c.if-in_set.true) c.args.out.now c.all_instances.new.out c.all_instances.result can.0 (c.all_instances.ensures.adds g agrees r can.1)
+
+-- src/collecting.rt:1:1
+pub movable_quantified_synchronisation-returns-else-in_set-clause-adds :
+    goal.movable_quantified_synchronisation-returns-else-in_set-clause-adds
+movable_quantified_synchronisation-returns-else-in_set-clause-adds t c =
+    let d = c.args.self.now.diagram.now in
+    let a = c.args.self.now.answers.now in
+    let asked = ap (λ (e : Event). in_set e.label c.args.labels.now.items) (sym c.event.ensures.is_the_event) ∙ sym c.in_set.ensures in
+    λ g agrees r any.
+    each-alone d a g c.args.over c.args.part c.args.body (labels_of c.args.labels.now) c.args.row.now c.requires.is_bound.same_scope c.requires.is_first c.requires.is_quantified_synchronisation c.args.out.now c.one_instance.new.out c.one_instance.result (asked ∙ c.if-in_set.false) (c.one_instance.ensures.adds g agrees r)
+
+-- src/collecting.rt:1:1
+pub movable_synchronisation-returns-then-in_set-clause-adds :
+    goal.movable_synchronisation-returns-then-in_set-clause-adds
+movable_synchronisation-returns-then-in_set-clause-adds t c =
+    let d = c.args.self.now.diagram.now in
+    let a = c.args.self.now.answers.now in
+    let asked = ap (λ (e : Event). in_set e.label c.args.labels.now.items) (sym c.event.ensures.is_the_event) ∙ sym c.in_set.ensures in
+    λ g agrees r any.
+    together-added d a g c.args.part c.args.left c.args.right c.args.row.now c.requires.are_beside (labels_of c.args.labels.now) c.requires.is_in_place.is_inside c.requires.is_synchronisation c.args.out.now c.both_move.new.out c.both_move.result (asked ∙ c.if-in_set.true)
+    (c.both_move.ensures.adds g agrees r (sides-can d a g c.args.part c.args.left c.args.right c.args.row.now c.requires.are_beside (labels_of c.args.labels.now) c.requires.is_in_place.is_inside c.requires.is_synchronisation (asked ∙ c.if-in_set.true) any))
+
+-- src/collecting.rt:1:1
+pub movable_synchronisation-returns-else-in_set-clause-adds :
+    goal.movable_synchronisation-returns-else-in_set-clause-adds
+movable_synchronisation-returns-else-in_set-clause-adds t c =
+    let d = c.args.self.now.diagram.now in
+    let a = c.args.self.now.answers.now in
+    let asked = ap (λ (e : Event). in_set e.label c.args.labels.now.items) (sym c.event.ensures.is_the_event) ∙ sym c.in_set.ensures in
+    λ g agrees r any.
+    apart-added d a g c.args.part c.args.left c.args.right c.args.row.now c.requires.are_beside (labels_of c.args.labels.now) c.requires.is_in_place.is_inside c.requires.is_synchronisation c.args.out.now c.either_side.new.out c.either_side.result (asked ∙ c.if-in_set.false) (c.either_side.ensures.adds g agrees r)
 
 -- src/collecting.rt:283:17
 pub one_instance-collect-requires : goal.one_instance-collect-requires

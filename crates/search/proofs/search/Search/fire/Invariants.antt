@@ -9,11 +9,12 @@ use Rattle.motions.specs.Collecting.{Stays, Gained}
 use Rattle.diagram.specs.Plans.{arrows_in}
 use Rattle.answers.specs.Answering.{Agrees}
 use Rattle.search.specs.Searching.{Fired}
+use Rattle.search.proofs.Looked.{numbered}
 use Rattle.search.proofs.search.Search.fire.Given as goal
 
-abbrev pub invariant-loop-number : goal.invariant-loop-number
-invariant-loop-number l = record {
+abbrev pub invariant-loop-short : goal.invariant-loop-short
+invariant-loop-short l = record {
   stays : Stays l.initial.out l.out;
   adds : (g : Guards) → Agrees l.self.diagram.now l.self.answers.now g → Rising row_rank (held l.initial.out)
-      → Gained (Fired (take l.number (arrows_in l.self.diagram.now.plan)) l.self.diagram.now l.self.answers.now g l.part l.states (slice_index l.row.cells l.part.at) (state_of l.states (slice_index l.row.cells l.part.at)).child l.row) (held l.initial.out) (held l.out);
+      → Gained (Fired (take l.short-index (numbered (arrows_in l.self.diagram.now.plan) l.numbers)) l.self.diagram.now l.self.answers.now g l.part l.states (slice_index l.row.cells l.part.at) (state_of l.states (slice_index l.row.cells l.part.at)).child l.row) (held l.initial.out) (held l.out);
 }
