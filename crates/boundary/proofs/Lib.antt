@@ -1,0 +1,5 @@
+pub mod Pages
+pub mod Entries
+pub mod Rows
+pub mod Calls
+pub mod Whole

@@ -1,0 +1,3 @@
+pub mod Texts
+pub mod Settings
+pub mod Playing
