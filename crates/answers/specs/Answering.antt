@@ -1,5 +1,5 @@
 -- What is kept of the answers of guards to an event.
-use Rattle.std.specs.Prelude.{◌≡◌, ℕ, ◌<◌, ◌≤◌, Bool, true, List, Option, Some, None, [], ◌==◌, length, slice_index_or}
+use Rattle.std.specs.Prelude.{◌≡◌, ℕ, ◌<◌, ◌≤◌, Bool, true, List, Option, Some, None, [], ◌==◌, length, replicate, slice_index_or}
 use Rattle.std.specs.Int.{bit_at}
 use Rattle.std.specs.List.{slice_get}
 use Rattle.event.specs.declared.event.Event.{Event}
@@ -64,6 +64,10 @@ AreOfArrow d g e k rows = (guard : ℕ) (w : Arrow) → slice_get (arrows_in d.p
 pub record Agrees (d : Diagram) (a : Answers) (g : Guards) : Type 0 where
   pub nodes : (i : ℕ) → AreOfNode d g a.event i (rows_of (slice_get a.nodes.now i))
   pub arrows : (k : ℕ) → AreOfArrow d g a.event k (rows_of (slice_get a.arrows.now k))
+
+-- no at every position
+abbrev pub no_replies : Replies
+no_replies = record { rows = replicate 17 0 }
 
 -- so many entries are enough for the nodes and the arrows of a diagram
 abbrev pub Enough : ℕ → ℕ → Diagram → Type 0

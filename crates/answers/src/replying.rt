@@ -1,5 +1,5 @@
 ghost use Rattle.std.specs.Prelude.{◌≡◌, ℕ, ◌<◌, true};
-ghost use Rattle.answers.specs.Answering.{reply_in, node_answer, arrow_answer};
+ghost use Rattle.answers.specs.Answering.{no_replies, reply_in, node_answer, arrow_answer};
 
 use crate::answers::{Answers, Replies};
 use diagram::scope::Scope;
@@ -7,7 +7,9 @@ use event::event::Event;
 
 impl Replies {
     /// No everywhere.
-    pub(crate) fn none() -> Replies {
+    pub(crate) fn none() -> Replies
+        ensures { result ≡ no_replies }
+    {
         Replies { rows: [0; 17] }
     }
 

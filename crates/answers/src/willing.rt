@@ -1,13 +1,15 @@
-ghost use Rattle.std.specs.Prelude.{◌≡◌, true};
+ghost use Rattle.std.specs.Prelude.{◌≡◌, true, replicate};
 ghost use Rattle.diagram.specs.declared.diagram.Diagram.{Diagram};
-ghost use Rattle.answers.specs.Answering.{Agrees, AllYes, Enough};
+ghost use Rattle.answers.specs.Answering.{Agrees, AllYes, Enough, no_replies};
 
 use crate::answers::{Answers, Entries, Replies};
 use event::event::Event;
 
 impl<const N: usize, const A: usize> Entries<N, A> {
-    /// Entries that have no answer yet.
-    pub fn none() -> Entries<N, A> {
+    /// Entries that have no answer yet: they say no.
+    pub fn none() -> Entries<N, A>
+        ensures is_no_everywhere { result ≡ record { nodes = replicate N no_replies; arrows = replicate A no_replies } }
+    {
         Entries {
             nodes: [Replies::none(); N],
             arrows: [Replies::none(); A],
