@@ -1,4 +1,3 @@
 pub mod Agreeing
 pub mod Bits
 pub mod Entries
-pub mod Positions

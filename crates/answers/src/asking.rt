@@ -1,10 +1,8 @@
-ghost use Rattle.std.specs.Prelude.{◌≡◌, ℕ, ◌≤◌, true, [], length, Some, None};
+ghost use Rattle.std.specs.Prelude.{◌≡◌, ℕ, ◌≤◌, true, [], length, Some};
 ghost use Rattle.std.specs.List.{slice_get};
 ghost use Rattle.host.specs.declared.variables.Variables.{Variables};
 ghost use Rattle.rules.specs.Chains.{answers_after};
-ghost use Rattle.diagram.specs.Valued.{values_of};
 ghost use Rattle.diagram.specs.Plans.{nodes_of, arrows_in};
-ghost use Rattle.diagram.specs.Scopes.{variable_at};
 ghost use Rattle.answers.specs.Answering.{rows_of, Matters, IsRow, AreRows, AreOfNode, AreOfArrow, Agrees, Enough};
 
 use crate::answers::{Answers, Entries, Replies};
@@ -15,17 +13,6 @@ use event::event::Event;
 use host::host::GuardHost;
 use host::variables::Variables;
 use notation::node::Node;
-
-/// A bound of a variable's positions: those of its type's values are counted from 1, and without a type it is at 0.
-fn positions(diagram: &Diagram, over: Option<u16>) -> usize
-    ensures bounds { (k : ℕ) → result ≤ k → variable_at (values_of diagram.now.plan.values) over k ≡ None }
-    ensures fits { result ≤ 17 }
-{
-    match over {
-        None => 1,
-        Some(ty) => diagram.values(ty).len() + 1,
-    }
-}
 
 impl Place {
     /// Whether the answer to the event under these variables matters here.
@@ -52,7 +39,7 @@ impl Place {
         ensures { IsRow diagram.now (answers_after (H.meaning host.now) [] event) event self.now outer result }
     {
         let mut row = 0;
-        for inner in 0..positions(diagram, self.binders.inner) {
+        for inner in 0..diagram.positions(self.binders.inner) {
             if self.answer(host, event, diagram.variables(self.binders, outer, inner)) {
                 row |= 1u32 << inner;
             }
@@ -65,7 +52,7 @@ impl Place {
         ensures { AreRows diagram.now (answers_after (H.meaning host.now) [] event) event self.now result.rows }
     {
         let mut rows = [0; 17];
-        for outer in 0..positions(diagram, self.binders.outer) {
+        for outer in 0..diagram.positions(self.binders.outer) {
             rows[outer] = self.row(diagram, host, event, outer);
         }
         Replies { rows }

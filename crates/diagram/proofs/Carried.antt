@@ -20,13 +20,13 @@ use Rattle.rules.proofs.Growing.{arrow-of}
 use Rattle.rules.proofs.Candidates.{step-carried, carried-event}
 use Rattle.diagram.specs.Valued.{values_of}
 use Rattle.diagram.specs.Plans.{nodes_of, arrows_in, tree_at}
-use Rattle.diagram.specs.Scopes.{given, variable_at, variables_of, variables_at, typed_under, binders_at}
+use Rattle.diagram.specs.Scopes.{given, variable_at, variables_of, variables_at, positions_of, typed_under, binders_at}
 use Rattle.diagram.specs.Opening.{Opens, Above}
-use Rattle.diagram.specs.Carrying.{event_under, candidate_of, IsCandidate, CandidatesAreComplete}
+use Rattle.diagram.specs.Carrying.{event_under, candidate_of, outer_positions_of, inner_positions_of, outer_positions_at, inner_positions_at, IsCandidate, CandidatesAreComplete, CandidatesAreAtPositions}
 use Rattle.diagram.specs.declared.binders.Binders.{Binders}
 use Rattle.diagram.specs.declared.diagram.Diagram.{Diagram}
 use Rattle.diagram.proofs.Opens.{opens, above}
-use Rattle.diagram.proofs.Short.{outer-short, inner-short}
+use Rattle.diagram.proofs.Short.{outer-past, inner-past, no-candidate-outer, no-candidate-inner}
 
 -- two positions at which these are the variables under some binders
 record Placed (values : Values) (b : Binders) (v : Variables) : Type 0 where
@@ -77,6 +77,7 @@ module _ (d : Diagram) (e : Event) (f : InForm e) where
 
   arrow-carries : (i : ℕ) (w : NumberedArrow) (v : Variables) → Memᴰ w (arrows_of i 0 (arrows_in d.plan)) → Carries w.arrow e v → InScope i v → IsCandidate d e
   arrow-carries i w v m c p =
+      let values = values_of d.plan.values in
       let o = arrow-of i 0 (arrows_in d.plan) w m in
       let there : slice_get (arrows_in d.plan) o.place ≡ Some w.arrow = slice_get-get_or (arrows_in d.plan) o.place blank_arrow o.within ∙ ap Some o.arrow in
       record {
@@ -84,8 +85,10 @@ module _ (d : Diagram) (e : Event) (f : InForm e) where
         outer = p.outer;
         inner = p.inner;
         is_arrow = o.within;
-        outer_is_position = ⊎_elim (λ lt. lt) (λ ge. absurd (none-some v (sym (outer-short d.plan.values (binders_at d.binders i) p.outer p.inner ge) ∙ p.is))) (cases_lt p.outer 17);
-        inner_is_position = ⊎_elim (λ lt. lt) (λ ge. absurd (none-some v (sym (inner-short d.plan.values (binders_at d.binders i) p.outer p.inner ge) ∙ p.is))) (cases_lt p.inner 17);
+        outer_is_position = subst (λ (n : ℕ). p.outer < n) (ap (λ j. positions_of values (binders_at d.binders j).outer) (sym o.node) ∙ ap (outer_positions_of d) (sym there))
+            (⊎_elim (λ lt. lt) (λ ge. absurd (none-some v (sym (outer-past values (binders_at d.binders i) p.outer p.inner ge) ∙ p.is))) (cases_lt p.outer (positions_of values (binders_at d.binders i).outer)));
+        inner_is_position = subst (λ (n : ℕ). p.inner < n) (ap (λ j. positions_of values (binders_at d.binders j).inner) (sym o.node) ∙ ap (inner_positions_of d) (sym there))
+            (⊎_elim (λ lt. lt) (λ ge. absurd (none-some v (sym (inner-past values (binders_at d.binders i) p.outer p.inner ge) ∙ p.is))) (cases_lt p.inner (positions_of values (binders_at d.binders i).inner)));
         carries = ap (λ a. candidate_of d a p.outer p.inner) there
             ∙ ap (λ j. event_under w.arrow (variables_at (values_of d.plan.values) (binders_at d.binders j) p.outer p.inner)) o.node
             ∙ ap (event_under w.arrow) p.is
@@ -138,3 +141,9 @@ module _ (d : Diagram) (e : Event) (f : InForm e) where
 
 pub candidates-complete : CandidatesAreComplete
 candidates-complete d g e r r' f s = root-carries d e f (step-carried (tree_at d.plan (length (nodes_of d.plan) - 1)) g e no_variables r r' s)
+
+pub at-positions : CandidatesAreAtPositions
+at-positions d k outer inner e is = (
+  ⊎_elim (λ lt. lt) (λ ge. absurd (none-some e (sym (no-candidate-outer d k outer inner ge) ∙ is))) (cases_lt outer (outer_positions_at d k)),
+  ⊎_elim (λ lt. lt) (λ ge. absurd (none-some e (sym (no-candidate-inner d k outer inner ge) ∙ is))) (cases_lt inner (inner_positions_at d k)),
+)

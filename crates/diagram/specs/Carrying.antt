@@ -11,7 +11,7 @@ use Rattle.rules.specs.Rules.{Step}
 use Rattle.rules.specs.Candidates.{Carried, event_with}
 use Rattle.diagram.specs.Valued.{values_of}
 use Rattle.diagram.specs.Plans.{nodes_of, arrows_in, tree_at}
-use Rattle.diagram.specs.Scopes.{binders_at, variables_at}
+use Rattle.diagram.specs.Scopes.{binders_at, variables_at, positions_of}
 use Rattle.diagram.specs.declared.diagram.Diagram.{Diagram}
 
 -- the event of an arrow under variables, if there are such
@@ -28,14 +28,32 @@ candidate_of d (Some w) outer inner = event_under w (variables_at (values_of d.p
 abbrev pub candidate_at : Diagram → ℕ → ℕ → ℕ → Option Event
 candidate_at d k outer inner = candidate_of d (slice_get (arrows_in d.plan) k) outer inner
 
--- some arrow carries the event under the variables at two positions up to 16
+-- how many positions there are for the outer variable at an arrow, by the binders above its node; none without an arrow
+abbrev pub outer_positions_of : Diagram → Option Arrow → ℕ
+outer_positions_of d None = 0
+outer_positions_of d (Some w) = positions_of (values_of d.plan.values) (binders_at d.binders w.node).outer
+
+-- the same for the inner one
+abbrev pub inner_positions_of : Diagram → Option Arrow → ℕ
+inner_positions_of d None = 0
+inner_positions_of d (Some w) = positions_of (values_of d.plan.values) (binders_at d.binders w.node).inner
+
+-- how many there are for the outer variable at the arrow k
+abbrev pub outer_positions_at : Diagram → ℕ → ℕ
+outer_positions_at d k = outer_positions_of d (slice_get (arrows_in d.plan) k)
+
+-- the same for the inner one
+abbrev pub inner_positions_at : Diagram → ℕ → ℕ
+inner_positions_at d k = inner_positions_of d (slice_get (arrows_in d.plan) k)
+
+-- some arrow carries the event under the variables at two of its positions
 pub record IsCandidate (d : Diagram) (e : Event) : Type 0 where
   pub arrow : ℕ
   pub outer : ℕ
   pub inner : ℕ
   pub is_arrow : arrow < length (arrows_in d.plan)
-  pub outer_is_position : outer < 17
-  pub inner_is_position : inner < 17
+  pub outer_is_position : outer < outer_positions_at d arrow
+  pub inner_is_position : inner < inner_positions_at d arrow
   pub carries : candidate_at d arrow outer inner ≡ Some e
 
 -- every event in form that some arrow of the root's tree carries, under some values of the binders above it, is a candidate
@@ -47,3 +65,8 @@ abbrev pub CandidatesAreComplete : Type 0
 CandidatesAreComplete =
     (d : Diagram) (g : Guards) (e : Event) (r r' : Cells) → InForm e
     → Step (tree_at d.plan (length (nodes_of d.plan) - 1)) g e no_variables r r' → IsCandidate d e
+
+-- an arrow carries an event only at its positions
+abbrev pub CandidatesAreAtPositions : Type 0
+CandidatesAreAtPositions =
+    (d : Diagram) (k outer inner : ℕ) (e : Event) → candidate_at d k outer inner ≡ Some e → (outer < outer_positions_at d k) × (inner < inner_positions_at d k)

@@ -1,5 +1,5 @@
 -- The binders above each node, and the values that variables can have under them.
-use Rattle.std.specs.Prelude.{◌≡◌, ℕ, zero, suc, ◌-◌, List, length, Option, Some, None, slice_index_or}
+use Rattle.std.specs.Prelude.{◌≡◌, ℕ, zero, suc, ◌+◌, ◌-◌, List, length, Option, Some, None, slice_index_or}
 use Rattle.std.specs.List.{slice_get}
 use mathlib.Core.List.{Memᴰ}
 use Rattle.notation.specs.Parts.{children_of}
@@ -56,6 +56,11 @@ variable_at values None zero = Some None
 variable_at values None (suc k) = None
 variable_at values (Some ty) zero = None
 variable_at values (Some ty) (suc k) = given (slice_get (values ty) k)
+
+-- how many positions there are for a variable, that of absence included: the values of its type stand at those from 1 on; one without a type is absent, at 0
+abbrev pub positions_of : Values → Option ℕ → ℕ
+positions_of values None = 1
+positions_of values (Some ty) = length (values ty) + 1
 
 -- the variables of two, if there are both
 abbrev pub variables_of : Option (Option ℕ) → Option (Option ℕ) → Option Variables

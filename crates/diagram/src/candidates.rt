@@ -1,7 +1,7 @@
-ghost use Rattle.std.specs.Prelude.{◌≡◌, ℕ, ◌≤◌, None};
+ghost use Rattle.std.specs.Prelude.{◌≡◌, ◌≤◌};
 ghost use Rattle.rules.specs.Trees.{argument_of};
 ghost use Rattle.rules.specs.Candidates.{event_with};
-ghost use Rattle.diagram.specs.Carrying.{candidate_at};
+ghost use Rattle.diagram.specs.Carrying.{candidate_at, outer_positions_at, inner_positions_at};
 
 use crate::diagram::Diagram;
 use event::event::Event;
@@ -47,9 +47,9 @@ fn event_with(label: u16, first: Option<u16>, second: Option<u16>) -> Event
 }
 
 impl Diagram {
-    /// A bound of the outer positions at which an arrow carries an event.
+    /// How many positions there are for the outer variable at an arrow; none where there is no such arrow.
     pub fn outer_positions(&self, arrow: usize) -> usize
-        ensures bounds_those_of_candidates { (outer inner : ℕ) → result ≤ outer → candidate_at self.now arrow outer inner ≡ None }
+        ensures tells_how_many { result ≡ outer_positions_at self.now arrow }
         ensures is_17_at_most { result ≤ 17 }
     {
         let Some(arrow) = self.procedure().arrow(arrow) else {
@@ -58,9 +58,9 @@ impl Diagram {
         self.positions(self.binders(usize::from(arrow.node)).outer)
     }
 
-    /// A bound of the inner ones.
+    /// The same for the inner one.
     pub fn inner_positions(&self, arrow: usize) -> usize
-        ensures bounds_those_of_candidates { (outer inner : ℕ) → result ≤ inner → candidate_at self.now arrow outer inner ≡ None }
+        ensures tells_how_many { result ≡ inner_positions_at self.now arrow }
         ensures is_17_at_most { result ≤ 17 }
     {
         let Some(arrow) = self.procedure().arrow(arrow) else {
@@ -70,7 +70,7 @@ impl Diagram {
     }
 
     /// The event that an arrow carries under the variables at two positions, if there is such an arrow and they are positions of values.
-    /// Each event that some arrow can carry comes at some arrow and some positions up to 16.
+    /// Each event that some arrow can carry comes at some arrow and some of its positions.
     pub fn candidate(&self, arrow: usize, outer: usize, inner: usize) -> Option<Event>
         ensures is_the_arrows_event { result ≡ candidate_at self.now arrow outer inner }
     {

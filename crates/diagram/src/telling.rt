@@ -1,11 +1,11 @@
-ghost use Rattle.std.specs.Prelude.{◌≡◌, ℕ, ◌<◌, ◌≤◌, length, Some, None};
+ghost use Rattle.std.specs.Prelude.{◌≡◌, ◌<◌, ◌≤◌, length, Some};
 ghost use Rattle.std.specs.List.{slice_get};
 ghost use Rattle.rules.specs.Cells.{width};
 ghost use Rattle.diagram.specs.Valued.{values_of};
 ghost use Rattle.diagram.specs.Plans.{nodes_of, arrows_in, tree_at};
 ghost use Rattle.diagram.specs.Opening.{Opens, Above};
 ghost use Rattle.diagram.specs.Owning.{own_arrows, labelled_arrows};
-ghost use Rattle.diagram.specs.Scopes.{binders_at, variable_at, variables_at};
+ghost use Rattle.diagram.specs.Scopes.{binders_at, variable_at, variables_at, positions_of};
 
 use crate::binders::Binders;
 use crate::diagram::Diagram;
@@ -49,7 +49,7 @@ impl Diagram {
         self.plan.values.of(ty)
     }
 
-    /// The binders above a node; above one that is not there, none.
+    /// The binders above a node.
     pub fn binders(&self, i: usize) -> Binders
         ensures tells_what_is_above { result ≡ binders_at self.now.binders i }
     {
@@ -85,9 +85,9 @@ impl Diagram {
         }
     }
 
-    /// A bound of a variable's positions: those of its type's values are counted from 1, and without a type it is at 0.
+    /// How many positions there are for a variable, that of absence included: those of its type's values are counted from 1, and without a type it is at 0.
     pub fn positions(&self, ty: Option<u16>) -> usize
-        ensures bounds_those_of_values { (k : ℕ) → result ≤ k → variable_at (values_of self.now.plan.values) ty k ≡ None }
+        ensures tells_how_many { result ≡ positions_of (values_of self.now.plan.values) ty }
         ensures is_17_at_most { result ≤ 17 }
     {
         match ty {

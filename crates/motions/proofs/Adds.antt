@@ -1,7 +1,6 @@
 -- How additions to a list of rows follow one another. `Adds X n before after (Ok tt)` computes to `Gained X before after`, and with an error
 -- to `Exceeds X n before`: the lemmas say it so, for any type of errors.
-use Rattle.std.proofs.Common.{◌≡◌, refl, sym, ap, ◌∙◌, subst, ℕ, zero, suc, ◌+◌, ◌<◌, ◌≤◌, Bool, true, false, true≢false, ◌⊎◌, inl, inr, ⊎_elim, List, [], ◌∷◌, length, take, Some, Ok, Err, Result, Less, ltb-true, arith}
-use Rattle.std.specs.Ordering.{ordering_reverse, is_lt}
+use Rattle.std.proofs.Common.{◌≡◌, refl, sym, ◌∙◌, subst, ℕ, zero, suc, ◌+◌, ◌<◌, ◌≤◌, Bool, true, false, ◌⊎◌, inl, inr, ⊎_elim, List, [], ◌∷◌, length, take, Some, Ok, Err, Result, ltb-true, arith}
 use Rattle.std.specs.List.{slice_get}
 use Rattle.std.proofs.lemmas.List.{take_all}
 use Rattle.std.proofs.lemmas.Option.{none-some}
@@ -89,23 +88,21 @@ stays-refl o = record { room = refl; lender = refl }
 pub stays-then : (o m o' : OrderedRows) → Stays o m → Stays m o' → Stays o o'
 stays-then o m o' s t = record { room = t.room ∙ s.room; lender = t.lender ∙ s.lender }
 
--- the same for lists over lent places: `Added X o m (Ok tt)` says that X is gained if o rises, and with an error that X exceeds its room
-pub added-none : (X : Row → Type 0) (o : OrderedRows) → ((y : Row) → X y → ⊥) → Rising row_rank (held o) → Gained X (held o) (held o)
-added-none X o f r = adds-none X (held o) r f
+-- the same for lists over lent places: `Added X o m (Ok tt)` says that X is gained, and with an error that X exceeds its room
+pub added-none : (X : Row → Type 0) (o : OrderedRows) → ((y : Row) → X y → ⊥) → Gained X (held o) (held o)
+added-none X o f = adds-none X (held o) o.rises f
 
-pub added-overflow : (X Z : Row → Type 0) (o : OrderedRows) → (Rising row_rank (held o) → Exceeds X (room o) (held o)) → ((y : Row) → X y → Z y)
-    → Rising row_rank (held o) → Exceeds Z (room o) (held o)
-added-overflow X Z o a f r = adds-overflow X Z (room o) (held o) (a r) f
+pub added-overflow : (X Z : Row → Type 0) (o : OrderedRows) → Exceeds X (room o) (held o) → ((y : Row) → X y → Z y) → Exceeds Z (room o) (held o)
+added-overflow X Z o a f = adds-overflow X Z (room o) (held o) a f
 
 module _ {E : Type 0} where
   pub added-alike : (X Z : Row → Type 0) (o o' : OrderedRows) (r : Result (Unit {0}) E) → AlikeRows X Z → Added X o o' r → Added Z o o' r
-  added-alike X Z o o' r s a h = adds-alike X Z (room o) (held o) (held o') r s (a h)
+  added-alike X Z o o' r s a = adds-alike X Z (room o) (held o) (held o') r s a
 
   pub added-then : (X Y : Row → Type 0) (o m o' : OrderedRows) (r : Result (Unit {0}) E)
-      → Stays o m → (Rising row_rank (held o) → Gained X (held o) (held m)) → Added Y m o' r → Added (EitherRow X Y) o o' r
-  added-then X Y o m o' r s a b h =
-      let x : Gained X (held o) (held m) = a h in
-      adds-then X Y (room o) (held o) (held m) (held o') r x (subst (λ (n : ℕ). Adds Y n (held m) (held o') r) s.room (b x.rises))
+      → Stays o m → Gained X (held o) (held m) → Added Y m o' r → Added (EitherRow X Y) o o' r
+  added-then X Y o m o' r s a b =
+      adds-then X Y (room o) (held o) (held m) (held o') r a (subst (λ (n : ℕ). Adds Y n (held m) (held o') r) s.room b)
 
 -- the same rows
 pub rows-refl : (X : Row → Type 0) → AlikeRows X X
@@ -177,7 +174,7 @@ each-alike l Y Z f = record { to = λ y w. (w.0, w.1, (f w.0 w.1).to y w.2); fro
 
 -- a loop over a list of rows: the next row
 pub added-each : {E : Type 0} (l : List Row) (Y : Row → Row → Type 0) (i : ℕ) (x : Row) (o m o' : OrderedRows) (r : Result (Unit {0}) E)
-    → slice_get l i ≡ Some x → Stays o m → (Rising row_rank (held o) → Gained (FromEach (take i l) Y) (held o) (held m)) → Added (Y x) m o' r
+    → slice_get l i ≡ Some x → Stays o m → Gained (FromEach (take i l) Y) (held o) (held m) → Added (Y x) m o' r
     → Added (FromEach (take (i + 1) l) Y) o o' r
 added-each l Y i x o m o' r e s a b =
     added-alike (EitherRow (FromEach (take i l) Y) (Y x)) (FromEach (take (i + 1) l) Y) o o' r (each-more l Y i x e)

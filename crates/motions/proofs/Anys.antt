@@ -1,11 +1,11 @@
 -- Whether there is a way: what decides it, and what is left of it under each operator.
-use Rattle.std.proofs.Common.{◌≡◌, refl, ap, ◌∙◌, ℕ, suc, Bool, true, false, ◌&&◌, ◌||◌, true≢false, ◌⊎◌, inl, inr, List, ◌++◌, length, sym}
+use Rattle.std.proofs.Common.{◌≡◌, refl, ◌∙◌, ℕ, Bool, true, false, ◌&&◌, ◌||◌, true≢false, inl, inr, List, ◌++◌, length, sym}
 use Rattle.event.specs.declared.event.Event.{Event}
 use Rattle.host.specs.declared.variables.Variables.{Variables}
 use Rattle.rules.specs.Trees.{Tree, Guards, bound}
 use Rattle.rules.specs.Cells.{Cells, width, times, tagged}
-use Rattle.rules.specs.Rules.{Step, OneMoves, AllMove}
-use Rattle.rules.proofs.Widths.{length-fit, step-width, one-keeps, all-keep}
+use Rattle.rules.specs.Rules.{Step, AllMove}
+use Rattle.rules.proofs.Widths.{step-width, all-keep}
 use Rattle.motions.specs.Ways.{Way, Alike, Any, Long, If, Either, Tagged, Left, Right, Joined}
 use Rattle.std.specs.Prelude.{Decides}
 

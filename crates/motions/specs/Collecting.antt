@@ -28,9 +28,9 @@ pub record Stays (before after : OrderedRows) : Type 0 where
   pub room : room after ≡ room before
   pub lender : after.places.ghost_name ≡ before.places.ghost_name
 
--- the same of a list over lent places, which rises before
+-- the same of a list over lent places
 abbrev pub Added : {E : Type 0} → (Row → Type 0) → OrderedRows → OrderedRows → Result (Unit {0}) E → Type 0
-Added X before after r = Rising row_rank (held before) → Adds X (room before) (held before) (held after) r
+Added X before after r = Adds X (room before) (held before) (held after) r
 
 -- the same rows
 pub record AlikeRows (X Z : Row → Type 0) : Type 0 where

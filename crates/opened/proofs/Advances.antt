@@ -4,9 +4,8 @@ use Rattle.std.specs.List.{All}
 use Rattle.std.proofs.lemmas.Option.{none-some}
 use Rattle.event.specs.declared.event.Event.{Event}
 use Rattle.host.specs.Meanings.{Meaning}
-use Rattle.ordered.specs.Order.{Rising}
 use Rattle.ordered.specs.Held.{held, room}
-use Rattle.row.specs.Rows.{row_rank, OrderedRows}
+use Rattle.row.specs.Rows.{OrderedRows}
 use Rattle.row.specs.declared.row.Row.{Row}
 use Rattle.rules.specs.Trees.{Tree, Guards, no_variables}
 use Rattle.rules.specs.Cells.{Cells, fit, width}
@@ -96,15 +95,12 @@ module _ (o : Opened) (now : Meaning) (e : Event) (a : Answers) (event : a.event
   next-is = ap (λ (n : ℕ). successors (tree_of_opened o) guards e (firsts n (rows_in o))) (width-is o)
 
   module _ (before after : OrderedRows) (none : held before ≡ []) where
-    -- an empty list rises, and so what is added to it is known
-    rises : Rising row_rank (held before)
-    rises = subst (λ (l : List Row). Rising row_rank l) (sym none) tt
-
-    gained : (Rising row_rank (held before) → Gained Collected (held before) (held after)) → Gained Reaches [] (held after)
-    gained h = at-root (λ X. Gained X [] (held after)) (subst (λ (l : List Row). Gained Collected l (held after)) none (h rises))
+    -- what is added to an empty list is what it holds
+    gained : Gained Collected (held before) (held after) → Gained Reaches [] (held after)
+    gained h = at-root (λ X. Gained X [] (held after)) (subst (λ (l : List Row). Gained Collected l (held after)) none h)
 
     -- without overflow the first places have exactly the next states
-    pub found : (n : ℕ) (places : List Row) → (Rising row_rank (held before) → Gained Collected (held before) (held after))
+    pub found : (n : ℕ) (places : List Row) → Gained Collected (held before) (held after)
         → n ≡ length (held after) → take n after.places.now ≡ held after → places ≡ after.places.now → FindsAll o.held.width next n places
     found n places h count first is =
         let t : Tree = tree_of_opened o in
@@ -123,10 +119,10 @@ module _ (o : Opened) (now : Meaning) (e : Event) (a : Answers) (event : a.event
         }
 
     -- with an overflow there are more
-    pub overflown : (n : ℕ) → n ≡ room before → (Rising row_rank (held before) → Exceeds Collected (room before) (held before)) → n < length next
+    pub overflown : (n : ℕ) → n ≡ room before → Exceeds Collected (room before) (held before) → n < length next
     overflown n is h =
         let x : Exceeds Reaches (room before) [] =
-        at-root (λ X. Exceeds X (room before) []) (subst (λ (l : List Row). Exceeds Collected (room before) l) none (h rises)) in
+        at-root (λ X. Exceeds X (room before) []) (subst (λ (l : List Row). Exceeds Collected (room before) l) none h) in
         let more = exceeded (tree_of_opened o) guards e (root-short o) (rows_in o) (held-filled o) (room before) x in
         let same : length next ≡ length (successors (tree_of_opened o) guards e (firsts (width (tree_of_opened o)) (rows_in o))) = ap length next-is in
         omega arith

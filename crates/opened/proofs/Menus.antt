@@ -29,6 +29,7 @@ use Rattle.diagram.specs.Scopes.{binders_at, variables_at}
 use Rattle.diagram.specs.Carrying.{event_under, candidate_of, candidate_at}
 use Rattle.diagram.specs.declared.diagram.Diagram.{Diagram}
 use Rattle.diagram.proofs.Carried.{candidates-complete}
+use Rattle.diagram.proofs.Short.{few-outer, few-inner}
 use Rattle.law.specs.Menus.{menu_events, menu_answer, written_over}
 use Rattle.law.specs.Chained.{too_short}
 use Rattle.law.proofs.Offers.{menu-counts, menu-short}
@@ -88,7 +89,7 @@ module _ (o : Opened) (now : Meaning) where
   moving-out e i =
       let w = out-menu (tree_of_opened o) (states_in o.held) now e i in
       let c = candidates-complete o.diagram (answers_after now [] e) e w.1.0 w.1.2.0 w.0 w.1.2.1 in
-      ((c.arrow, c.is_arrow, (c.outer, c.outer_is_position, (c.inner, c.inner_is_position, c.carries))), some-move (tree_of_opened o) (answers_after now [] e) e (states_in o.held) w.1.0 w.1.2.0 w.1.1 w.1.2.1)
+      ((c.arrow, c.is_arrow, (c.outer, omega (arith, c.outer_is_position, few-outer o.diagram c.arrow), (c.inner, omega (arith, c.inner_is_position, few-inner o.diagram c.arrow), c.carries))), some-move (tree_of_opened o) (answers_after now [] e) e (states_in o.held) w.1.0 w.1.2.0 w.1.1 w.1.2.1)
 
   -- what was listed is the menu
   whole-menu : (out : OrderedEvents) (short : Bool) (l : Listed Moving [] out short) → l.whole ≡ menu_events (tree_of_opened o) (states_in o.held) now

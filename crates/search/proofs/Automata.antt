@@ -4,8 +4,7 @@ use Rattle.std.specs.List.{slice_get}
 use Rattle.std.specs.Result.{IsErr}
 use Rattle.std.proofs.lemmas.Result.{MatchResult-from_err}
 use Rattle.ordered.specs.Held.{held, room}
-use Rattle.ordered.specs.Order.{Rising}
-use Rattle.row.specs.Rows.{row_rank, OrderedRows}
+use Rattle.row.specs.Rows.{OrderedRows}
 use Rattle.row.specs.declared.row.Row.{Row}
 use Rattle.notation.specs.declared.node.Node.TheVariants.{Automaton}
 use Rattle.notation.specs.declared.node.State.{State}
@@ -78,10 +77,10 @@ module _ (d : Diagram) (a : Answers) (g : Guards) (p : Part) (s : States) (r : R
   fired-reached y f = (fired-or-moved (child state) refl).to y (inl f)
 
   -- too many of them are too many
-  pub fired-over : {E : Type 0} (l l' : OrderedRows) (res : Result (Unit {0}) E) → IsErr res → (Rising row_rank (held l) → Exceeds FiredHere (room l) (held l)) → Added (Reached d a g p r) l l' res
-  fired-over l l' res err many rises =
+  pub fired-over : {E : Type 0} (l l' : OrderedRows) (res : Result (Unit {0}) E) → IsErr res → Exceeds FiredHere (room l) (held l) → Added (Reached d a g p r) l l' res
+  fired-over l l' res err many =
       MatchResult-from_err res (λ u. Gained (Reached d a g p r) (held l) (held l')) (λ e. Exceeds (Reached d a g p r) (room l) (held l)) err
-      (λ e. added-overflow FiredHere (Reached d a g p r) l many fired-reached rises)
+      (λ e. added-overflow FiredHere (Reached d a g p r) l many fired-reached)
 
   -- x is the state
   module _ (x : State) (is : x ≡ state_of s state) where
@@ -93,8 +92,8 @@ module _ (d : Diagram) (a : Answers) (g : Guards) (p : Part) (s : States) (r : R
     }
 
     -- so they are gained
-    pub childless-added : x.child ≡ None → (l l' : OrderedRows) → (Rising row_rank (held l) → Gained FiredHere (held l) (held l')) → Rising row_rank (held l) → Gained (Reached d a g p r) (held l) (held l')
-    childless-added none l l' fired rises = gained-alike FiredHere (Reached d a g p r) (held l) (held l') (only-fired none) (fired rises)
+    pub childless-added : x.child ≡ None → (l l' : OrderedRows) → Gained FiredHere (held l) (held l') → Gained (Reached d a g p r) (held l) (held l')
+    childless-added none l l' fired = gained-alike FiredHere (Reached d a g p r) (held l) (held l') (only-fired none) fired
 
     -- it has a child, whose part is c: this moves, too
     module _ (k : ℕ) (some : x.child ≡ Some k) (c : Part) (of : c ≡ record { node = k; at = p.at + 1; scope = p.scope }) where
@@ -111,7 +110,7 @@ module _ (d : Diagram) (a : Answers) (g : Guards) (p : Part) (s : States) (r : R
 
       -- the rows to which arrows lead, and then those of the child
       pub state-added : {E : Type 0} (l m l' : OrderedRows) (res : Result (Unit {0}) E) → Stays l m
-          → (Rising row_rank (held l) → Gained FiredHere (held l) (held m)) → Added Resumed m l' res → Added (Reached d a g p r) l l' res
+          → Gained FiredHere (held l) (held m) → Added Resumed m l' res → Added (Reached d a g p r) l l' res
       state-added l m l' res stays fired moved =
           added-alike (EitherRow FiredHere Resumed) (Reached d a g p r) l l' res fired-or-resumed (added-then FiredHere Resumed l m l' res stays fired moved)
 

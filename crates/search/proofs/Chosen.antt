@@ -4,8 +4,7 @@ use Rattle.std.specs.List.{slice_get}
 use Rattle.std.specs.Result.{IsErr}
 use Rattle.std.proofs.lemmas.Result.{MatchResult-from_err}
 use Rattle.ordered.specs.Held.{held, room}
-use Rattle.ordered.specs.Order.{Rising}
-use Rattle.row.specs.Rows.{row_rank, OrderedRows}
+use Rattle.row.specs.Rows.{OrderedRows}
 use Rattle.row.specs.declared.row.Row.{Row}
 use Rattle.rules.specs.Trees.{Tree, Guards, bound, quantified_choice}
 use Rattle.rules.specs.Cells.{Cells, width, initial, body_room}
@@ -120,14 +119,14 @@ module _ (d : Diagram) (a : Answers) (g : Guards) (p : Part) (over : ℕ) (b : P
 
     -- too many of the first are too many
     pub starts-over : {E : Type 0} (o o' : OrderedRows) (res : Result (Unit {0}) E) → IsErr res
-        → (Rising row_rank (held o) → Exceeds (BehindTag d p (k + 1) (starts d a g c) r) (room o) (held o)) → Added (StartsFrom d a g p over b r k) o o' res
-    starts-over o o' res err many rises =
+        → Exceeds (BehindTag d p (k + 1) (starts d a g c) r) (room o) (held o) → Added (StartsFrom d a g p over b r k) o o' res
+    starts-over o o' res err many =
         MatchResult-from_err res (λ u. Gained (StartsFrom d a g p over b r k) (held o) (held o')) (λ e. Exceeds (StartsFrom d a g p over b r k) (room o) (held o)) err
-        (λ e. added-overflow (BehindTag d p (k + 1) (starts d a g c) r) (StartsFrom d a g p over b r k) o many (λ y h. starts-more.to y (inl h)) rises)
+        (λ e. added-overflow (BehindTag d p (k + 1) (starts d a g c) r) (StartsFrom d a g p over b r k) o many (λ y h. starts-more.to y (inl h)))
 
     -- the rows of the first, and then those of the others
     pub starts-added : {E : Type 0} (o m o' : OrderedRows) (res : Result (Unit {0}) E) → Stays o m
-        → (Rising row_rank (held o) → Gained (BehindTag d p (k + 1) (starts d a g c) r) (held o) (held m)) → Added (StartsFrom d a g p over b r (k + 1)) m o' res
+        → Gained (BehindTag d p (k + 1) (starts d a g c) r) (held o) (held m) → Added (StartsFrom d a g p over b r (k + 1)) m o' res
         → Added (StartsFrom d a g p over b r k) o o' res
     starts-added o m o' res stays here later =
         added-alike (EitherRow (BehindTag d p (k + 1) (starts d a g c) r) (StartsFrom d a g p over b r (k + 1))) (StartsFrom d a g p over b r k) o o' res starts-more

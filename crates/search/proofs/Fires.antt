@@ -9,9 +9,8 @@ use Rattle.notation.specs.declared.arrow.Arrow.{Arrow}
 use Rattle.notation.specs.declared.node.State.{State}
 use Rattle.notation.specs.declared.node.States.{States}
 use Rattle.ordered.specs.Held.{held}
-use Rattle.ordered.specs.Order.{Rising}
 use Rattle.row.specs.Laws.{same-row}
-use Rattle.row.specs.Rows.{row_rank, OrderedRows}
+use Rattle.row.specs.Rows.{OrderedRows}
 use Rattle.row.specs.declared.row.Row.{Row}
 use Rattle.rules.specs.Trees.{Guards}
 use Rattle.rules.specs.Cells.{width, initial, tagged}
@@ -102,7 +101,7 @@ module _ (ws : List Arrow) (Y : Arrow → Row → Type 0) where
 
   -- a loop over the arrows: the next one
   pub added-fired : {E : Type 0} (n : ℕ) (w : Arrow) (l m l' : OrderedRows) (v : Result (Unit {0}) E)
-      → slice_get ws n ≡ Some w → Stays l m → (Rising row_rank (held l) → Gained (First n) (held l) (held m)) → Added (Y w) m l' v
+      → slice_get ws n ≡ Some w → Stays l m → Gained (First n) (held l) (held m) → Added (Y w) m l' v
       → Added (First (n + 1)) l l' v
   added-fired n w l m l' v e k b f =
       added-alike (EitherRow (First n) (Y w)) (First (n + 1)) l l' v (fired-more n w e)

@@ -4,8 +4,7 @@ use Rattle.std.specs.List.{slice_get}
 use Rattle.std.proofs.lemmas.Option.{none-some, slice_get_read, slice_get_past}
 use mathlib.Core.List.{Memᴰ}
 use Rattle.ordered.specs.Held.{held, room}
-use Rattle.ordered.specs.Order.{Rising}
-use Rattle.row.specs.Rows.{row_rank, OrderedRows}
+use Rattle.row.specs.Rows.{OrderedRows}
 use Rattle.row.specs.Laws.{same-row}
 use Rattle.row.specs.declared.row.Row.{Row}
 use Rattle.rules.specs.Trees.{Tree, Guards, quantified_synchronisation, bound}
@@ -137,7 +136,7 @@ module _ (d : Diagram) (a : Answers) (g : Guards) (over : ℕ) (b : Part) (k : �
     pub none-can : Decides true (Any (all_move d a g over b k r))
     none-can = (λ t. subst (λ (xs : List ℕ). Any (AllMove w B xs (part_at (times xs w) r.cells b.at))) (sym ends) ([], (all-none w B []).fro [] refl), λ y. refl)
 
-    pub none-moves : (o : OrderedRows) → Rising row_rank (held o) → Gained (InstancesReached d over b k r (one_moves d a g over b k r)) (held o) (held o)
+    pub none-moves : (o : OrderedRows) → Gained (InstancesReached d over b k r (one_moves d a g over b k r)) (held o) (held o)
     none-moves o = added-none _ o
         (subst (λ (xs : List ℕ). (y : Row) → Framed r.cells b.at (times xs w) (OneMoves w B xs (part_at (times xs w) r.cells b.at)) y → ⊥) (sym ends) (λ y f. one-none w B [] f.0 f.1))
 
@@ -208,11 +207,11 @@ module _ (d : Diagram) (a : Answers) (g : Guards) (over : ℕ) (b : Part) (k : �
       can-rest : Any (all_move d a g over b k r) → Any (Rest r)
       can-rest c = (any-joined-back First (Rest r) (any-alike (all_move d a g over b k r) (Joined First (Rest r)) (all-is r) c)).1
 
-      first-gained : (s s' : OrderedRows) → (Rising row_rank (held s) → Gained (Reached d a g p r) (held s) (held s')) → Rising row_rank (held s) → Gained (Framed r.cells b.at w First) (held s) (held s')
-      first-gained s s' c = subst (λ (X : Row → Type 0). Rising row_rank (held s) → Gained X (held s) (held s')) (reached-alike r) c
+      first-gained : (s s' : OrderedRows) → Gained (Reached d a g p r) (held s) (held s') → Gained (Framed r.cells b.at w First) (held s) (held s')
+      first-gained s s' c = subst (λ (X : Row → Type 0). Gained X (held s) (held s')) (reached-alike r) c
 
       -- where the first one has moved, the others can move if they could
-      pub still-can : (s s' : OrderedRows) → held s ≡ [] → (Rising row_rank (held s) → Gained (Reached d a g p r) (held s) (held s')) → Any (all_move d a g over b k r)
+      pub still-can : (s s' : OrderedRows) → held s ≡ [] → Gained (Reached d a g p r) (held s) (held s') → Any (all_move d a g over b k r)
           → (y : Row) → Memᴰ y (held s') → Any (all_move d a g over next (k + 1) y)
       still-can s s' e c can y i =
           let f = first-only (Framed r.cells b.at w First) (held s') (gained-first (Framed r.cells b.at w First) s s' e (first-gained s s' c)) y i in
@@ -224,19 +223,19 @@ module _ (d : Diagram) (a : Answers) (g : Guards) (over : ℕ) (b : Part) (k : �
           subst (λ (l : List ℕ). AlikeRows (Framed r.cells b.at (w + n) (Joined First (Rest r))) (Framed r.cells b.at (times l w) (AllMove w B l (part_at (times l w) r.cells b.at)))) (sym splits)
           (framed-alike r.cells b.at (w + n) (Joined First (Rest r)) (AllMove w B (x ∷ xs) (part_at (w + n) r.cells b.at)) (alike-sym _ _ (all-parts w B x xs r.cells b.at)))
 
-      pub all-added : {E : Type 0} (o o' s s' : OrderedRows) (res : Result (Unit {0}) E) → held s ≡ [] → (Rising row_rank (held s) → Gained (Reached d a g p r) (held s) (held s'))
+      pub all-added : {E : Type 0} (o o' s s' : OrderedRows) (res : Result (Unit {0}) E) → held s ≡ [] → Gained (Reached d a g p r) (held s) (held s')
           → Added (AllOfEach s') o o' res → Added All o o' res
       all-added o o' s s' res e c z =
           added-alike (Framed r.cells b.at (w + n) (Joined First (Rest r))) All o o' res all-rows
           (both-added r.cells b.at w n First (AllMove w B xs) r.full room-inside (long-first r) o o' s s' res e (first-gained s s' c)
           (subst (λ (q : Part). Added (FromEach (held s') (λ y z. InstancesReached d over q (k + 1) y (all_move d a g over q (k + 1) y) z)) o o' res) follows z))
 
-      pub all-over : (o s : OrderedRows) → room o ≤ room s → held s ≡ [] → Any (all_move d a g over b k r) → (Rising row_rank (held s) → Exceeds (Reached d a g p r) (room s) (held s)) → Exceeds All (room o) (held o)
+      pub all-over : (o s : OrderedRows) → room o ≤ room s → held s ≡ [] → Any (all_move d a g over b k r) → Exceeds (Reached d a g p r) (room s) (held s) → Exceeds All (room o) (held o)
       all-over o s le e can c =
           adds-overflow (Framed r.cells b.at (w + n) (Joined First (Rest r))) All (room o) (held o)
           (both-over r.cells b.at w n First (AllMove w B xs) r.full room-inside (long-first r) o s le e
           (long-all (tree_at d.plan b.node) g a.event b.scope.variables xs (part_at n r.cells (b.at + w)) (length-part r.cells (b.at + w) n)) (can-rest can)
-          (subst (λ (X : Row → Type 0). Rising row_rank (held s) → Exceeds X (room s) (held s)) (reached-alike r) c))
+          (subst (λ (X : Row → Type 0). Exceeds X (room s) (held s)) (reached-alike r) c))
           all-rows.to
 
       one-of-all : AlikeRows (EitherRow (Reached d a g p r) (InstancesReached d over next (k + 1) r (one_moves d a g over next (k + 1) r))) One
@@ -246,13 +245,13 @@ module _ (d : Diagram) (a : Answers) (g : Guards) (over : ℕ) (b : Part) (k : �
           (subst (λ (l : List ℕ). AlikeRows (EitherRow (Framed r.cells b.at w First) (InstancesReached d over (past d b) (k + 1) r (one_moves d a g over (past d b) (k + 1) r))) (Framed r.cells b.at (times l w) (OneMoves w B l (part_at (times l w) r.cells b.at)))) (sym splits)
           (one-rows w B x xs r.cells b.at (omega (arith, r.full, room-inside)))))
 
-      pub one-added : {E : Type 0} (o m o' : OrderedRows) (res : Result (Unit {0}) E) → Stays o m → (Rising row_rank (held o) → Gained (Reached d a g p r) (held o) (held m))
+      pub one-added : {E : Type 0} (o m o' : OrderedRows) (res : Result (Unit {0}) E) → Stays o m → Gained (Reached d a g p r) (held o) (held m)
           → Added (InstancesReached d over next (k + 1) r (one_moves d a g over next (k + 1) r)) m o' res → Added One o o' res
       one-added o m o' res s c z =
           added-alike _ One o o' res one-of-all (added-then (Reached d a g p r) (InstancesReached d over next (k + 1) r (one_moves d a g over next (k + 1) r)) o m o' res s c z)
 
-      pub one-over : (o : OrderedRows) → (Rising row_rank (held o) → Exceeds (Reached d a g p r) (room o) (held o)) → Rising row_rank (held o) → Exceeds One (room o) (held o)
-      one-over o c h = adds-overflow (Reached d a g p r) One (room o) (held o) (c h) (λ y f. one-of-all.to y (inl f))
+      pub one-over : (o : OrderedRows) → Exceeds (Reached d a g p r) (room o) (held o) → Exceeds One (room o) (held o)
+      one-over o c = adds-overflow (Reached d a g p r) One (room o) (held o) c (λ y f. one-of-all.to y (inl f))
 
 -- an instance is in place, if the instances are within a row
 pub instance-in-place : (d : Diagram) (part : Part) (over : ℕ) (b p : Part) (k x : ℕ) → Bound d part over b → InstancesInside d over b k → slice_get (values_of d.plan.values over) k ≡ Some x → Instance b p x
@@ -339,9 +338,9 @@ module _ (d : Diagram) (a : Answers) (g : Guards) (over : ℕ) (p b : Part) (lab
         exceeds-one (Reached d a g p r) (room o) (held o) y.0 z ((together some).to y.0 y.1)
 
     -- no row, if there is no value
-    pub no-value : (o : OrderedRows) → has_value vs ≡ false → Rising row_rank (held o) → Gained (Reached d a g p r) (held o) (held o)
+    pub no-value : (o : OrderedRows) → has_value vs ≡ false → Gained (Reached d a g p r) (held o) (held o)
     no-value o none = added-none (Reached d a g p r) o (subst (λ (t : Tree). (y : Row) → Framed r.cells p.at (width t) (Moves t) y → ⊥) (sym is) (λ y f. without vs none f.0 f.1))
 
     -- nor if one of the instances cannot move
-    pub not-all : (o : OrderedRows) → has_value vs ≡ true → (Any (all_move d a g over b 0 r) → ⊥) → Rising row_rank (held o) → Gained (Reached d a g p r) (held o) (held o)
+    pub not-all : (o : OrderedRows) → has_value vs ≡ true → (Any (all_move d a g over b 0 r) → ⊥) → Gained (Reached d a g p r) (held o) (held o)
     not-all o some stuck = added-none (Reached d a g p r) o (λ y f. let i = (together some).fro y f in stuck (i.0, i.1))

@@ -5,14 +5,13 @@ use Rattle.std.specs.Result.{IsErr}
 use Rattle.std.proofs.lemmas.Option.{none-some, slice_get_read}
 use mathlib.Core.List.{Memᴰ}
 use Rattle.ordered.specs.Held.{held, room}
-use Rattle.ordered.specs.Order.{Rising}
-use Rattle.row.specs.Rows.{row_rank, OrderedRows}
+use Rattle.row.specs.Rows.{OrderedRows}
 use Rattle.row.specs.declared.row.Row.{Row}
 use Rattle.motions.specs.Collecting.{Gained, Exceeds, Stays, Added, FromEach}
 use Rattle.motions.proofs.Adds.{adds-overflow, gained-alike, added-each, each-some, each-all}
 
 -- what is returned early is an error
-pub early : {E : Type 0} (X : Row → Type 0) (o o' : OrderedRows) (r : Result (Unit {0}) E) → IsErr r → (Rising row_rank (held o) → Exceeds X (room o) (held o)) → Added X o o' r
+pub early : {E : Type 0} (X : Row → Type 0) (o o' : OrderedRows) (r : Result (Unit {0}) E) → IsErr r → Exceeds X (room o) (held o) → Added X o o' r
 early X o o' (Ok u) is x = absurd (true≢false (sym is))
 early X o o' (Err e) is x = x
 
@@ -30,20 +29,20 @@ row-in l items is i x h e = subst (λ (k : List Row). Memᴰ x k) is (member ite
 
 module _ (l items : List Row) (Y : Row → Row → Type 0) (is : items ≡ l) (i : ℕ) where
   -- after the last round, from each row
-  pub after-rounds : (o m : OrderedRows) → length items ≤ i → (Rising row_rank (held o) → Gained (FromEach (take i items) Y) (held o) (held m)) → Rising row_rank (held o) → Gained (FromEach l Y) (held o) (held m)
-  after-rounds o m h a r =
+  pub after-rounds : (o m : OrderedRows) → length items ≤ i → Gained (FromEach (take i items) Y) (held o) (held m) → Gained (FromEach l Y) (held o) (held m)
+  after-rounds o m h a =
       subst (λ (k : List Row). Gained (FromEach k Y) (held o) (held m)) is
-      (gained-alike (FromEach (take i items) Y) (FromEach items Y) (held o) (held m) (each-all items Y i h) (a r))
+      (gained-alike (FromEach (take i items) Y) (FromEach items Y) (held o) (held m) (each-all items Y i h) a)
 
-  module _ (x : Row) (h : i < length items) (e : x ≡ slice_index_or items i x) (o m : OrderedRows) (s : Stays o m) (a : Rising row_rank (held o) → Gained (FromEach (take i items) Y) (held o) (held m)) where
+  module _ (x : Row) (h : i < length items) (e : x ≡ slice_index_or items i x) (o m : OrderedRows) (s : Stays o m) (a : Gained (FromEach (take i items) Y) (held o) (held m)) where
     -- one more round
-    pub next-round : (o' : OrderedRows) → (Rising row_rank (held m) → Gained (Y x) (held m) (held o')) → Rising row_rank (held o) → Gained (FromEach (take (i + 1) items) Y) (held o) (held o')
+    pub next-round : (o' : OrderedRows) → Gained (Y x) (held m) (held o') → Gained (FromEach (take (i + 1) items) Y) (held o) (held o')
     next-round o' b = added-each {E = ℕ} items Y i x o m o' (Ok tt) (row-there items i x h e) s a b
 
     -- a round that overflows
-    pub last-round : (Rising row_rank (held m) → Exceeds (Y x) (room m) (held m)) → Rising row_rank (held o) → Exceeds (FromEach l Y) (room o) (held o)
-    last-round b r =
+    pub last-round : Exceeds (Y x) (room m) (held m) → Exceeds (FromEach l Y) (room o) (held o)
+    last-round b =
         subst (λ (k : List Row). Exceeds (FromEach k Y) (room o) (held o)) is
         (adds-overflow (FromEach (take (i + 1) items) Y) (FromEach items Y) (room o) (held o)
-        (added-each {E = ℕ} items Y i x o m o (Err 0) (row-there items i x h e) s a b r)
+        (added-each {E = ℕ} items Y i x o m o (Err 0) (row-there items i x h e) s a b)
         (λ y w. each-some items Y (i + 1) y w))

@@ -4,8 +4,7 @@ use Rattle.std.specs.Result.{is_err}
 use mathlib.Core.List.{Memᴰ}
 use mathlib.Core.List.Memᴰ
 use Rattle.ordered.specs.Held.{held, room}
-use Rattle.ordered.specs.Order.{Rising}
-use Rattle.row.specs.Rows.{row_rank, OrderedRows}
+use Rattle.row.specs.Rows.{OrderedRows}
 use Rattle.row.specs.declared.row.Row.{Row}
 use Rattle.rules.specs.Trees.{Tree, Guards, synchronisation}
 use Rattle.rules.specs.Cells.{Cells, width}
@@ -27,11 +26,11 @@ use Rattle.search.specs.Searching.{cells_of, Beside, successors, moves_from, Rea
 use Rattle.motions.proofs.Arms.{apart-arm, together-arm}
 
 -- what a list holds that was empty
-pub gained-first : (X : Row → Type 0) (o m : OrderedRows) → held o ≡ [] → (Rising row_rank (held o) → Gained X (held o) (held m)) → Gained X [] (held m)
-gained-first X o m e a = subst (λ (l : List Row). Gained X l (held m)) e (a (subst (Rising row_rank) (sym e) tt))
+pub gained-first : (X : Row → Type 0) (o m : OrderedRows) → held o ≡ [] → Gained X (held o) (held m) → Gained X [] (held m)
+gained-first X o m e a = subst (λ (l : List Row). Gained X l (held m)) e a
 
-pub exceeds-first : (X : Row → Type 0) (o : OrderedRows) → held o ≡ [] → (Rising row_rank (held o) → Exceeds X (room o) (held o)) → Exceeds X (room o) []
-exceeds-first X o e a = subst (λ (l : List Row). Exceeds X (room o) l) e (a (subst (Rising row_rank) (sym e) tt))
+pub exceeds-first : (X : Row → Type 0) (o : OrderedRows) → held o ≡ [] → Exceeds X (room o) (held o) → Exceeds X (room o) []
+exceeds-first X o e a = subst (λ (l : List Row). Exceeds X (room o) l) e a
 
 pub first-only : (X : Row → Type 0) (l : List Row) → Gained X [] l → (y : Row) → Memᴰ y l → X y
 first-only X l a y i = ⊎_elim (λ n. absurd (Memᴰ.not-nil n)) (λ x. x) (a.only y i)
@@ -84,30 +83,30 @@ module _ (r : Cells) (at m n : ℕ) (P : Way) (B : Motion) (size : length r ≡ 
       (λ x i. subst (λ (c : Cells). AlikeRows (Framed x.cells (at + m) n (B (part_at n x.cells (at + m)))) (Framed x.cells (at + m) n (B c))) (still-beside x (first-only _ l a x i)) (record { to = λ y f. f; fro = λ y f. f })))
       (product r at m n P (B (part_at n r (at + m))) l size h long (first-only _ l a) (λ x f. a.all x (inr f)))
 
-  pub both-added : {E : Type 0} (o o' : OrderedRows) (s s' : OrderedRows) (res : Result (Unit {0}) E) → held s ≡ [] → (Rising row_rank (held s) → Gained (Framed r at m P) (held s) (held s'))
+  pub both-added : {E : Type 0} (o o' : OrderedRows) (s s' : OrderedRows) (res : Result (Unit {0}) E) → held s ≡ [] → Gained (Framed r at m P) (held s) (held s')
       → Added (FromEach (held s') (λ x y. Framed x.cells (at + m) n (B (part_at n x.cells (at + m))) y)) o o' res → Added (Framed r at (m + n) (Joined P (B (part_at n r (at + m))))) o o' res
   both-added o o' s s' res e a b = added-alike _ _ o o' res (both-rows (held s') (gained-first (Framed r at m P) s s' e a)) b
 
   -- too many rows of the first are too many of both, if those beside can move
-  pub both-over : (o s : OrderedRows) → room o ≤ room s → held s ≡ [] → Long n (B (part_at n r (at + m))) → Any (B (part_at n r (at + m))) → (Rising row_rank (held s) → Exceeds (Framed r at m P) (room s) (held s))
+  pub both-over : (o s : OrderedRows) → room o ≤ room s → held s ≡ [] → Long n (B (part_at n r (at + m))) → Any (B (part_at n r (at + m))) → Exceeds (Framed r at m P) (room s) (held s)
       → Exceeds (Framed r at (m + n) (Joined P (B (part_at n r (at + m))))) (room o) (held o)
   both-over o s le e long' any a = product-exceeds r at m n (room s) (room o) P (B (part_at n r (at + m))) (held o) size h long long' any le (exceeds-first (Framed r at m P) s e a)
 
   module _ (at-a at-b : ℕ) (ea : at-a ≡ at) (eb : at-b ≡ at + m) where
-    pub both-added-at : {E : Type 0} (o o' : OrderedRows) (s s' : OrderedRows) (res : Result (Unit {0}) E) → held s ≡ [] → (Rising row_rank (held s) → Gained (Framed r at-a m P) (held s) (held s'))
+    pub both-added-at : {E : Type 0} (o o' : OrderedRows) (s s' : OrderedRows) (res : Result (Unit {0}) E) → held s ≡ [] → Gained (Framed r at-a m P) (held s) (held s')
         → Added (FromEach (held s') (λ x y. Framed x.cells at-b n (B (part_at n x.cells at-b)) y)) o o' res → Added (Framed r at (m + n) (Joined P (B (part_at n r at-b)))) o o' res
     both-added-at o o' s s' res e a =
         subst (λ (b : ℕ). Added (FromEach (held s') (λ x y. Framed x.cells b n (B (part_at n x.cells b)) y)) o o' res → Added (Framed r at (m + n) (Joined P (B (part_at n r b)))) o o' res) (sym eb)
-        (both-added o o' s s' res e (λ k. subst (λ (b : ℕ). Gained (Framed r b m P) (held s) (held s')) ea (a k)))
+        (both-added o o' s s' res e (subst (λ (b : ℕ). Gained (Framed r b m P) (held s) (held s')) ea a))
 
     pub beside-can-at : (x : Row) → Framed r at-a m P x → Any (B (part_at n r at-b)) → Any (B (part_at n x.cells at-b))
     beside-can-at x f = subst (λ (b : ℕ). Any (B (part_at n r b)) → Any (B (part_at n x.cells b))) (sym eb) (beside-can x (subst (λ (b : ℕ). Framed r b m P x) ea f))
 
-    pub both-over-at : (o s : OrderedRows) → room o ≤ room s → held s ≡ [] → Long n (B (part_at n r at-b)) → Any (B (part_at n r at-b)) → (Rising row_rank (held s) → Exceeds (Framed r at-a m P) (room s) (held s))
+    pub both-over-at : (o s : OrderedRows) → room o ≤ room s → held s ≡ [] → Long n (B (part_at n r at-b)) → Any (B (part_at n r at-b)) → Exceeds (Framed r at-a m P) (room s) (held s)
         → Exceeds (Framed r at (m + n) (Joined P (B (part_at n r at-b)))) (room o) (held o)
     both-over-at o s le e long' any a =
         subst (λ (b : ℕ). Long n (B (part_at n r b)) → Any (B (part_at n r b)) → Exceeds (Framed r at (m + n) (Joined P (B (part_at n r b)))) (room o) (held o)) (sym eb)
-        (λ l w. both-over o s le e l w (λ k. subst (λ (b : ℕ). Exceeds (Framed r b m P) (room s) (held s)) ea (a k)))
+        (λ l w. both-over o s le e l w (subst (λ (b : ℕ). Exceeds (Framed r b m P) (room s) (held s)) ea a))
         long' any
 
 long-joined : (m n : ℕ) (P Q : Way) → Long m P → Long n Q → Long (m + n) (Joined P Q)
@@ -148,18 +147,18 @@ module _ (d : Diagram) (a : Answers) (g : Guards) where
           exceeds-one Both (room o) (held o) y.0 z y.1
 
       -- where the left side has moved, the right one can move if it could
-      pub right-can : (s s' : OrderedRows) → held s ≡ [] → (Rising row_rank (held s) → Gained (Reached d a g left r) (held s) (held s')) → Any (successors d a g right r)
+      pub right-can : (s s' : OrderedRows) → held s ≡ [] → Gained (Reached d a g left r) (held s) (held s') → Any (successors d a g right r)
           → (y : Row) → Memᴰ y (held s') → Any (successors d a g right y)
       right-can s s' e x w y i =
           beside-can-at r.cells p.at (part_width d left) (part_width d right) (successors d a g left r) (moves_from d a g right) r.full fits (long-successors left r)
           left.at right.at b.left_is_first b.right_is_beside y (first-only (Reached d a g left r) (held s') (gained-first (Reached d a g left r) s s' e x) y i) w
 
-      pub sides-over : (o s : OrderedRows) → room o ≤ room s → held s ≡ [] → Any (successors d a g right r) → (Rising row_rank (held s) → Exceeds (Reached d a g left r) (room s) (held s)) → Exceeds Both (room o) (held o)
+      pub sides-over : (o s : OrderedRows) → room o ≤ room s → held s ≡ [] → Any (successors d a g right r) → Exceeds (Reached d a g left r) (room s) (held s) → Exceeds Both (room o) (held o)
       sides-over o s le e w x =
           both-over-at r.cells p.at (part_width d left) (part_width d right) (successors d a g left r) (moves_from d a g right) r.full fits (long-successors left r)
           left.at right.at b.left_is_first b.right_is_beside o s le e (long-successors right r) w x
 
-      pub sides-added : {E : Type 0} (o o' : OrderedRows) (s s' : OrderedRows) (res : Result (Unit {0}) E) → held s ≡ [] → (Rising row_rank (held s) → Gained (Reached d a g left r) (held s) (held s'))
+      pub sides-added : {E : Type 0} (o o' : OrderedRows) (s s' : OrderedRows) (res : Result (Unit {0}) E) → held s ≡ [] → Gained (Reached d a g left r) (held s) (held s')
           → Added (FromEach (held s') (λ x y. Reached d a g right x y)) o o' res → Added Both o o' res
       sides-added o o' s s' res e x =
           both-added-at r.cells p.at (part_width d left) (part_width d right) (successors d a g left r) (moves_from d a g right) r.full fits (long-successors left r)

@@ -1,8 +1,7 @@
 -- A list that several sets of rows are added to, one after the other.
 use Rattle.std.proofs.Common.{◌≡◌, sym, subst, ℕ, ◌≤◌, Result, Err, inl, inr, ⊎_elim}
 use Rattle.ordered.specs.Held.{held, room}
-use Rattle.ordered.specs.Order.{Rising}
-use Rattle.row.specs.Rows.{row_rank, OrderedRows}
+use Rattle.row.specs.Rows.{OrderedRows}
 use Rattle.row.specs.declared.row.Row.{Row}
 use Rattle.motions.specs.Collecting.{Gained, Exceeds, Added, Stays, AlikeRows, EitherRow}
 use Rattle.motions.proofs.Adds.{added-alike, added-then, added-overflow}
@@ -13,10 +12,10 @@ still-few o m n s few = subst (λ (k : ℕ). k ≤ n) (sym s.room) few
 
 -- a set of rows was added, and a set of rows overflowed the list
 abbrev pub Fits : (Row → Type 0) → OrderedRows → OrderedRows → Type 0
-Fits X o m = Rising row_rank (held o) → Gained X (held o) (held m)
+Fits X o m = Gained X (held o) (held m)
 
 abbrev pub Overflows : (Row → Type 0) → OrderedRows → Type 0
-Overflows X o = Rising row_rank (held o) → Exceeds X (room o) (held o)
+Overflows X o = Exceeds X (room o) (held o)
 
 module _ {E : Type 0} (Z : Row → Type 0) where
   -- an overflow of some of the rows is one of all

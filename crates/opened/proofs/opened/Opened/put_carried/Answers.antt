@@ -1,5 +1,6 @@
 use Rattle.std.proofs.Common.{◌≡◌, ◌∙◌, refl, ap, length, arith}
 use Rattle.ordered.specs.Held.{held}
+use Rattle.diagram.proofs.Short.{no-candidate-outer}
 use Rattle.opened.proofs.Putting.{put-none, put-outer, put-outers, put-exactly, keep-same, keep-more}
 use Rattle.opened.proofs.opened.Opened.put_carried.Goals as goal
 
@@ -27,5 +28,5 @@ returns-clause-puts_these c none wide =
     let empty : length (held c.args.out.now) ≡ 0 = ap length none in
     let bound = c.outer_positions-outer-end.ensures in
     put-exactly _ (held c.args.out.now) _ none
-    (put-outers c.args.self.now.diagram c.args.arrow c.outer_positions-outer-end.result c.loop-outer.outer _ _ bound.bounds_those_of_candidates (omega arith) (omega (arith, bound.is_17_at_most))
+    (put-outers c.args.self.now.diagram c.args.arrow c.outer_positions-outer-end.result c.loop-outer.outer _ _ (λ outer inner h. no-candidate-outer c.args.self.now.diagram c.args.arrow outer inner (omega (arith, h, bound.tells_how_many))) (omega arith) (omega (arith, bound.is_17_at_most))
     (c.loop-outer.invariant.puts (omega (arith, bound.is_17_at_most))))

@@ -1,5 +1,6 @@
 use Rattle.std.proofs.Common.{refl, sym, ◌∙◌, arith}
 use Rattle.ordered.specs.Held.{held, room}
+use Rattle.diagram.proofs.Short.{no-candidate-inner}
 use Rattle.opened.specs.Listing.{Keeps}
 use Rattle.opened.proofs.Putting.{put-none, put-kept, kept-grows, keep-same, keep-more, keep-next, put-nothing, put-next, put-inner}
 use Rattle.opened.proofs.opened.Opened.put_carried_at.Goals.{in-Some, in_default}
@@ -46,5 +47,5 @@ loop-inner-preserved c =
 pub returns-clause-puts_these : goal.returns-clause-puts_these
 returns-clause-puts_these c wide =
     let bound = c.inner_positions-inner-end.ensures in
-    put-inner c.args.self.now.diagram c.args.arrow c.args.outer c.inner_positions-inner-end.result c.loop-inner.inner _ _ bound.bounds_those_of_candidates (omega arith) (omega (arith, bound.is_17_at_most))
+    put-inner c.args.self.now.diagram c.args.arrow c.args.outer c.inner_positions-inner-end.result c.loop-inner.inner _ _ (λ outer inner h. no-candidate-inner c.args.self.now.diagram c.args.arrow outer inner (omega (arith, h, bound.tells_how_many))) (omega arith) (omega (arith, bound.is_17_at_most))
     (c.loop-inner.invariant.puts (omega (arith, bound.is_17_at_most)))

@@ -20,7 +20,7 @@ returns-in_err-each-clause-finds_all_unless_they_are_more c now agrees =
     let room-is : length c.args.places.now ≡ room out = ap length (sym c.over-out.ensures.lends_these_places) in
     let all = c.in_err-each.ensures.adds_the_successors_of_each (answers_after now [] e) agrees (omega arith) in
     let exceeds = subst (λ (l : List Row). Exceeds (λ y. FromEach l (λ x z. Reached o.diagram a (answers_after now [] e) o.root x z) y) (room out) (held out)) c.rows.ensures.are_those_in_use in
-    rw r.1 (overflown o now e a refl out c.each.new.out c.over-out.ensures.holds_nothing (length c.args.places.now) room-is (λ h. exceeds (all h)))
+    rw r.1 (overflown o now e a refl out c.each.new.out c.over-out.ensures.holds_nothing (length c.args.places.now) room-is (exceeds all))
 
 -- src/advancing.rt:20:5
 pub returns-clause-finds_all_unless_they_are_more :
@@ -34,4 +34,4 @@ returns-clause-finds_all_unless_they_are_more c now agrees =
     let all = c.in_ok-each.ensures.adds_the_successors_of_each (answers_after now [] e) agrees (omega arith) in
     let gained = subst (λ (l : List Row). Gained (λ y. FromEach l (λ x z. Reached o.diagram a (answers_after now [] e) o.root x z) y) (held out) (held c.each.new.out)) c.rows.ensures.are_those_in_use in
     found o now e a refl out c.each.new.out c.over-out.ensures.holds_nothing c.len.result _
-    (λ r. gained (all r)) c.len.ensures.counts_what_is_held c.len.ensures.so_many_first_places_are_what_is_held (search rules)
+    (gained all) c.len.ensures.counts_what_is_held c.len.ensures.so_many_first_places_are_what_is_held (search rules)

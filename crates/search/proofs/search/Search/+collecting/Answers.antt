@@ -112,7 +112,7 @@ all_instances_in-returns-in_err-collect_movable-clause-adds t c =
     let lent : room c.over-moved.result ≡ length c.args.places.now = ap (λ (l : List Row). length l) c.over-moved.ensures.lends_these_places in
     let few = c.requires.are_few_enough in
     λ fits g agrees r any.
-    early _ c.args.out.now c.args.out.now c.from_residual.result c.from_residual.ensures.0 (λ k. all-over d a g c.args.over c.args.body c.args.k x some c.bound.result (past d c.args.body) i refl c.args.row.now c.requires.are_inside c.args.out.now c.over-moved.result (omega arith) c.over-moved.ensures.holds_nothing any (c.in_err-collect_movable.ensures.adds g agrees (omega arith) (first-can d a g c.args.over c.args.body c.args.k x some c.bound.result (past d c.args.body) i refl c.args.row.now any)))
+    early _ c.args.out.now c.args.out.now c.from_residual.result c.from_residual.ensures.0 (all-over d a g c.args.over c.args.body c.args.k x some c.bound.result (past d c.args.body) i refl c.args.row.now c.requires.are_inside c.args.out.now c.over-moved.result (omega arith) c.over-moved.ensures.holds_nothing any (c.in_err-collect_movable.ensures.adds g agrees (omega arith) (first-can d a g c.args.over c.args.body c.args.k x some c.bound.result (past d c.args.body) i refl c.args.row.now any)))
 
 -- src/collecting.rt:307:5
 pub all_instances-returns-in-None-clause-adds : goal.all_instances-returns-in-None-clause-adds
@@ -223,7 +223,7 @@ pub both_sides-returns-then-room-eq0-clause-adds :
 both_sides-returns-then-room-eq0-clause-adds t c =
     let d = c.args.self.now.diagram.now in
     let a = c.args.self.now.answers.now in
-    λ g agrees r h.
+    λ g agrees r.
     let first = (c.can_move.ensures.decides_whether_there_is_a_successor g agrees).0 c.if-not-can_move.false in
     let second = (c.can_move-else-not-can_move.ensures.decides_whether_there_is_a_successor g agrees).0 c.if-not-can_move-2.false in
     sides-full d a g c.args.part c.args.left c.args.right c.args.row.now c.requires.are_beside c.requires.are_inside c.args.out.now (sym c.room.ensures.counts_the_places ∙ c.if-room-eq0.true) first second
@@ -238,7 +238,7 @@ both_move_in-returns-in_err-collect_movable-clause-adds t c =
     let few = c.requires.are_few_enough in
     λ fits g agrees r can.
     early _ c.args.out.now c.args.out.now c.from_residual.result c.from_residual.ensures.0
-    (λ h. sides-over d a g c.args.part c.args.left c.args.right c.args.row.now c.requires.are_beside c.requires.are_inside c.args.out.now c.over-moved.result (omega arith) c.over-moved.ensures.holds_nothing can.1 (c.in_err-collect_movable.ensures.adds g agrees (omega arith) can.0))
+    (sides-over d a g c.args.part c.args.left c.args.right c.args.row.now c.requires.are_beside c.requires.are_inside c.args.out.now c.over-moved.result (omega arith) c.over-moved.ensures.holds_nothing can.1 (c.in_err-collect_movable.ensures.adds g agrees (omega arith) can.0))
 
 -- src/collecting.rt:228:9
 pub both_move_in-returns-clause-adds : goal.both_move_in-returns-clause-adds
@@ -650,7 +650,7 @@ quantified_synchronisation-returns-then-room-eq0-clause-adds t c =
     let asked = ap (λ (e : Event). in_set e.label c.args.labels.now.items) (sym c.event.ensures.is_the_event) ∙ sym c.in_set.ensures in
     let some = values-some _ _ c.is_empty.result c.values.ensures.tells_the_values c.is_empty.ensures c.if-is_empty.false in
     let inside = bound-inside d c.args.over c.args.part c.args.body (labels_of c.args.labels.now) c.requires.is_first c.requires.is_quantified_synchronisation c.requires.is_in_place.is_inside in
-    λ g agrees r h.
+    λ g agrees r.
     no-room d a g c.args.over c.args.part c.args.body (labels_of c.args.labels.now) c.args.row.now c.requires.is_bound.same_scope c.requires.is_first c.requires.is_quantified_synchronisation (asked ∙ c.if-not-in_set.false) c.args.out.now (sym c.room.ensures.counts_the_places ∙ c.if-room-eq0.true) some inside ((c.all_can.ensures g agrees).0 c.if-not-all_can.false)
 
 -- src/collecting.rt:344:5

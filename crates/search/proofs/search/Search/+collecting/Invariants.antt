@@ -2,8 +2,6 @@
 use Rattle.std.proofs.Common.{◌+◌, ◌-◌, ◌*◌, ◌≤◌, take}
 use mathlib.Core.List.{Memᴰ}
 use Rattle.ordered.specs.Held.{held, room}
-use Rattle.ordered.specs.Order.{Rising}
-use Rattle.row.specs.Rows.{row_rank}
 use Rattle.row.specs.declared.row.Row.{Row}
 use Rattle.rules.specs.Trees.{Guards}
 use Rattle.motions.specs.Ways.{Any}
@@ -111,7 +109,6 @@ invariant-each_movable-loop-row l =
     Stays l.initial.out l.out
     × ((g : Guards) → Agrees l.self.diagram.now l.self.answers.now g → room l.initial.out ≤ 128
     → ((x : Row) → Memᴰ x l.rows → Any (successors l.self.diagram.now l.self.answers.now g l.part x))
-    → Rising row_rank (held l.initial.out)
     → Gained (FromEach (take l.row-index l.rows) (λ x y. Reached l.self.diagram.now l.self.answers.now g l.part x y)) (held l.initial.out) (held l.out))
 
 abbrev pub invariant-all_instances_of_each-loop-row : goal.invariant-all_instances_of_each-loop-row
@@ -119,5 +116,4 @@ invariant-all_instances_of_each-loop-row l =
     Stays l.initial.out l.out
     × ((g : Guards) → Agrees l.self.diagram.now l.self.answers.now g → room l.initial.out ≤ 128
     → ((x : Row) → Memᴰ x (held l.rows) → Any (all_move l.self.diagram.now l.self.answers.now g l.over l.body l.k x))
-    → Rising row_rank (held l.initial.out)
     → Gained (FromEach (take l.row-index l.row-items) (λ x y. InstancesReached l.self.diagram.now l.over l.body l.k x (all_move l.self.diagram.now l.self.answers.now g l.over l.body l.k x) y)) (held l.initial.out) (held l.out))

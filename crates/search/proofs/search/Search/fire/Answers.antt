@@ -21,7 +21,7 @@ bounds-arrows-number c =
     (looked ws c.args.part.node c.args.self.now.answers.now.event.label c.looked_at-numbers.result.now c.looked_at-numbers.ensures c.loop-short.short-index c.from-number.result c.loop-short-test.true c.from-number.ensures c.arrows-arrows.result.now all).there
 
 pub returns-in_err-follow-clause-adds : goal.returns-in_err-follow-clause-adds
-returns-in_err-follow-clause-adds c = λ g agrees r.
+returns-in_err-follow-clause-adds c = λ g agrees.
     let d = c.args.self.now.diagram.now in
     let a = c.args.self.now.answers.now in
     let p = c.args.part in
@@ -37,14 +37,14 @@ returns-in_err-follow-clause-adds c = λ g agrees r.
     let before = c.args.out.now in
     let only = looked-all ws p.node a.event.label numbers c.looked_at-numbers.ensures to (λ x y f. (f.0.0, f.0.1.carries.label)) in
     let many = added-fired (numbered ws numbers) to {E = Overflow} n w before c.loop-short.out c.follow.new.out (Err c.in_err-follow.field-0.0) at.is_looked_at
-    c.loop-short.invariant.stays (c.loop-short.invariant.adds g agrees) (c.in_err-follow.ensures.adds g agrees at.is_arrow) r in
+    c.loop-short.invariant.stays (c.loop-short.invariant.adds g agrees) (c.in_err-follow.ensures.adds g agrees at.is_arrow) in
     MatchResult-from_err c.from_residual.result _ _ c.from_residual.ensures.0
     (λ y. adds-overflow (First (numbered ws numbers) to (n + 1)) (FromArrows to ws) (room before) (held before) many (λ x f. only.to x (fired-some (numbered ws numbers) to (n + 1) x f)))
 
 pub loop-short-preserved : goal.loop-short-preserved
 loop-short-preserved c = record {
   stays = stays-then c.args.out.now c.loop-short.out c.follow.new.out c.loop-short.invariant.stays c.in_ok-follow.ensures.stays;
-  adds = λ g agrees r.
+  adds = λ g agrees.
       let d = c.args.self.now.diagram.now in
       let a = c.args.self.now.answers.now in
       let p = c.args.part in
@@ -58,11 +58,11 @@ loop-short-preserved c = record {
       let at = looked ws p.node a.event.label numbers c.looked_at-numbers.ensures n c.from-number.result c.loop-short-test.true c.from-number.ensures c.arrows-arrows.result.now all in
       let w = slice_index_or c.arrows-arrows.result.now c.from-number.result blank_arrow in
       added-fired (numbered ws numbers) to {E = Overflow} n w c.args.out.now c.loop-short.out c.follow.new.out (Ok c.in_ok-follow.field-0) at.is_looked_at
-      c.loop-short.invariant.stays (c.loop-short.invariant.adds g agrees) (c.in_ok-follow.ensures.adds g agrees at.is_arrow) r;
+      c.loop-short.invariant.stays (c.loop-short.invariant.adds g agrees) (c.in_ok-follow.ensures.adds g agrees at.is_arrow);
 }
 
 pub returns-clause-adds : goal.returns-clause-adds
-returns-clause-adds c = λ g agrees r.
+returns-clause-adds c = λ g agrees.
     let d = c.args.self.now.diagram.now in
     let a = c.args.self.now.answers.now in
     let p = c.args.part in
@@ -74,6 +74,6 @@ returns-clause-adds c = λ g agrees r.
     let numbers = c.looked_at-numbers.result.now in
     let long = length-map numbers (λ k. slice_index_or ws k blank_arrow) in
     let past : length (numbered ws numbers) ≤ n = omega (arith, long, c.loop-short-test.false) in
-    let mine = gained-alike (First (numbered ws numbers) to n) (FromArrows to (numbered ws numbers)) (held c.args.out.now) (held c.loop-short.out) (fired-all (numbered ws numbers) to n past) (c.loop-short.invariant.adds g agrees r) in
+    let mine = gained-alike (First (numbered ws numbers) to n) (FromArrows to (numbered ws numbers)) (held c.args.out.now) (held c.loop-short.out) (fired-all (numbered ws numbers) to n past) (c.loop-short.invariant.adds g agrees) in
     gained-alike (FromArrows to (numbered ws numbers)) (FromArrows to ws) (held c.args.out.now) (held c.loop-short.out)
     (looked-all ws p.node a.event.label numbers c.looked_at-numbers.ensures to (λ x y f. (f.0.0, f.0.1.carries.label))) mine
