@@ -19,7 +19,7 @@ abbrev pub AllYes : List Asked → Type 0
 AllYes [] = Unit {0}
 AllYes (a ∷ as') = (a.yes ≡ true) × AllYes as'
 
--- among the questions asked, q at p is answered no, and every one that comes before it is answered yes
+-- among the questions asked, the one of f is answered no at its place, and every one that comes before it is answered yes
 pub record FirstNo (asked : List Asked) (f : Fault) : Type 0 where
   pub before : List Asked
   pub after : List Asked

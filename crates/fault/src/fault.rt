@@ -50,7 +50,7 @@ pub enum Layer {
     Settings = 4,
 }
 
-/// The place of a no that concerns no node. A rule of the project makes it a number like any other place, since a report prints it.
+/// The place of a no to question 8 where there is no node at all. A rule of the project makes it a number like any other place, since a report prints it.
 pub const NO_NODE: usize = 65_535;
 
 /// A refusal: the question that was answered no, and where.

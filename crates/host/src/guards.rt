@@ -8,7 +8,7 @@ pub struct Guards<C> {
 }
 
 impl<C: Copy> Guards<C> {
-    /// Has none set, so it says no to every guard.
+    /// Has none set.
     pub fn new() -> Self
         ensures has_none_set { result.entries ≡ replicate 32 None }
     {

@@ -1,4 +1,4 @@
--- What a node names: its children, and whether it binds a variable.
+-- What a node names: its children, whether it binds a variable over a type, and its states; and what an arrow's argument needs.
 use Rattle.std.specs.Prelude.{ℕ, Bool, true, false, List, [], ◌∷◌, ◌++◌, length, Some, None, Option}
 use Rattle.std.specs.Option.{option_to_list}
 use Rattle.notation.specs.declared.node.State.{State}
@@ -9,7 +9,7 @@ use Rattle.notation.specs.declared.arrow.Arrow.{Arrow}
 use Rattle.notation.specs.declared.arrow.Argument.{Argument}
 use Rattle.notation.specs.declared.arrow.Argument.TheVariants.{Absent, Constant, Outer, Inner}
 
--- what stands in a place of a table that is not in use
+-- what stands in a place of a table that is not in use, and what a number past the last is taken for
 abbrev pub blank_state : State
 blank_state = record { mark = Unmarked; child = None }
 

@@ -9,7 +9,7 @@ use Rattle.record.specs.Decoding.{entry_at}
 use Rattle.record.specs.declared.kind.Kind.{Kind}
 use Rattle.record.specs.declared.entry.Entry.{Entry}
 use Rattle.procedure.specs.Drawings.{Drawing, nothing_drawn, grown}
-use Rattle.procedure.specs.Framed.{Framed}
+use Rattle.procedure.proofs.Framed.{Framed}
 use Rattle.procedure.specs.Layout.{fields_in, fields_of, record_of, records_of, NeatEntry, NeatEntries, drawn_after, Lays}
 use Rattle.procedure.specs.Reading.{start_of, entry_as, entry_here, drawn_by, ranged_as, ranged}
 use Rattle.procedure.proofs.Fields.{fields_from, length_fields, fields_split}

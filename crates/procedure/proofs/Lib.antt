@@ -2,6 +2,7 @@ pub mod Claiming
 pub mod Entries
 pub mod Fields
 pub mod Fitting
+pub mod Framed
 pub mod Growing
 pub mod Laying
 pub mod Reached

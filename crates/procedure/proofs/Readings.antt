@@ -10,7 +10,7 @@ use Rattle.notation.specs.Parts.{blank_arrow}
 use Rattle.record.specs.Frames.{whole, known, exact, frame_asks}
 use Rattle.record.proofs.Below.{all_from}
 use Rattle.procedure.specs.Drawings.{Drawing, nothing_drawn, grown}
-use Rattle.procedure.specs.Framed.{Framed}
+use Rattle.procedure.proofs.Framed.{Framed}
 use Rattle.procedure.specs.Procedures.{RefusedExactly, AcceptedExactly, LaidOutExactly}
 use Rattle.procedure.specs.Reading.{start_of, records_from, records, entry_here, drawn_by, ranged, few, entry_free, entry_placed, entry_asks, record_asks, root_asks, binder_asks, scope_asks, whole_asks, file_asks, asks, reading, answer_of, left_by, Refused, Accepted}
 use Rattle.procedure.specs.Scopes.{attached, binders_few, in_scope}

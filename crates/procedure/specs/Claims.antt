@@ -9,7 +9,7 @@ abbrev pub claims : ℕ → List (Option ℕ) → List ℕ → Option (List (Opt
 claims m t [] = Some t
 claims m t (k ∷ ks) = cond (nat_lt k m && not (is_some (slice_index_or t k None))) (claims m (slice_set t k (Some m)) ks) None
 
--- what a call that claims ks answers and leaves
+-- what a call that claims ks answers, and what it leaves unless it is refused
 abbrev pub Claimed : Claims → List ℕ → Result (Unit {0}) Fault → Claims → Type 0
 Claimed before ks r after =
     MatchResult r (λ _. (claims before.node before.parents ks ≡ Some after.parents) × (after.node ≡ before.node) × (after.place ≡ before.place))

@@ -12,7 +12,7 @@ use Rattle.record.specs.declared.entry.Entry.{Entry}
 use Rattle.record.specs.declared.entry.Entry.TheVariants as e
 use Rattle.procedure.specs.Drawings.{Drawing, nothing_drawn, grown}
 
--- the fields of a file, each of two bytes, the low one first
+-- the fields of a file, each of two bytes, the low one first; a lone last byte is in none
 abbrev pub fields_in : List ℕ → List ℕ
 fields_in [] = []
 fields_in (low ∷ []) = []

@@ -1,7 +1,6 @@
 pub mod Claims
 pub mod Drafts
 pub mod Drawings
-pub mod Framed
 pub mod Layout
 pub mod Procedures
 pub mod Reading

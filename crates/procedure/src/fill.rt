@@ -1,4 +1,4 @@
-ghost use Rattle.std.specs.Prelude.{◌≡◌, ◌+◌, ◌<◌, ◌≤◌, length, Some, None, MatchResult};
+ghost use Rattle.std.specs.Prelude.{◌≡◌, ◌+◌, ◌≤◌, length, Some, None, MatchResult};
 ghost use Rattle.fault.specs.Asking.{refusal};
 ghost use Rattle.record.specs.Bytes.{field_at};
 ghost use Rattle.procedure.specs.Drawings.{grown};
@@ -13,7 +13,6 @@ const MOST_BYTES: usize = 16_384;
 impl Draft {
     /// Questions 2 to 7 of a record, whose entry joins the draft; tells where the next record begins.
     fn read(&mut self, here: &Record) -> Result<usize, Fault>
-        requires { (length here.now.bytes.now ≤ 16384) × (here.now.at < length here.now.bytes.now) }
         ensures { MatchResult result
             (λ next. (self.new ≡ grown self.old (entry_here here.now.bytes.now here.now.at)) × (refusal (record_asks here.now.bytes.now here.now.at here.now.place self.old) ≡ None) × (next ≡ here.now.at + 2 + field_at here.now.bytes.now here.now.at) × (next ≤ length here.now.bytes.now))
             (λ f. refusal (record_asks here.now.bytes.now here.now.at here.now.place self.old) ≡ Some f) }

@@ -6,7 +6,7 @@ use notation::node::Node;
 use notation::table::Table;
 
 /// A diagram that was read: its nodes and arrows by their numbers. The last node is the root.
-/// It holds nothing, or what answered yes to every question of a reading.
+/// It holds nothing, or what a reading that was not refused drew; either way what it holds is sound.
 #[derive(Clone, Copy)]
 pub struct Procedure {
     pub(crate) nodes: Table<Node, 64>,

@@ -17,15 +17,15 @@ use Rattle.record.specs.declared.kind.Kind.TheVariants as k
 use Rattle.record.specs.declared.entry.Entry.{Entry}
 use Rattle.record.specs.declared.entry.Entry.TheVariants as e
 
--- a mark: 0 none, 1 shallow final, 2 deep final
+-- a mark: 0 none, 1 shallow final, 2 deep final (other numbers are out of range, whatever stands for them here)
 abbrev pub mark_of : ℕ → Mark
 mark_of c = cond (c == 0) Unmarked (cond (c == 1) Shallow Deep)
 
--- a number that 65,535 leaves out: a child, a guard
+-- a child or a guard, none where the field is 65,535
 abbrev pub unless_none : ℕ → Option ℕ
 unless_none c = cond (c == 65535) None (Some c)
 
--- an argument by its kind and value: 0 absent, 1 constant, 2 outer, 3 inner
+-- an argument by its kind and value: 0 absent, 1 constant, 2 outer, 3 inner (other kinds are out of range, whatever stands for them here)
 abbrev pub argument_of : ℕ → ℕ → Argument
 argument_of c v = cond (c == 0) Absent (cond (c == 1) (Constant v) (cond (c == 2) Outer Inner))
 

@@ -10,7 +10,7 @@ use Rattle.fault.specs.declared.fault.Question.TheVariants.{RecordWhole, KindKno
 abbrev pub whole : List ℕ → ℕ → Bool
 whole b at = nat_le (at + 4) (length b) && (nat_le 2 (field_at b at) && nat_le (at + 2 + field_at b at) (length b))
 
--- question 3
+-- question 3: the number stands for a kind
 abbrev pub known : List ℕ → ℕ → Bool
 known b at = is_some (kind_of (field_at b (at + 2)))
 

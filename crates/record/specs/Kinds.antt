@@ -1,6 +1,5 @@
--- The kinds of record: their numbers and their exact lengths.
-use Rattle.std.specs.Prelude.{◌≡◌, ℕ, ◌+◌, ◌*◌, cond, List, Some, None, Option, Result, MatchResult, ◌==◌}
-use Rattle.record.specs.declared.kind.UnknownKind.{UnknownKind}
+-- The kinds of record: their numbers, their exact lengths, and where each has its count.
+use Rattle.std.specs.Prelude.{ℕ, ◌+◌, ◌*◌, cond, List, Some, None, Option, ◌==◌}
 use Rattle.record.specs.Bytes.{field_at}
 use Rattle.record.specs.declared.kind.Kind.{Kind}
 use Rattle.record.specs.declared.kind.Kind.TheVariants.{Automaton, Sequence, Closure, Guard, Choice, Synchronisation, QuantifiedChoice, QuantifiedSynchronisation, Arrow}
@@ -11,10 +10,6 @@ kind_of c =
     cond (c == 1) (Some Automaton) (cond (c == 2) (Some Sequence) (cond (c == 3) (Some Closure) (cond (c == 4) (Some Guard)
     (cond (c == 5) (Some Choice) (cond (c == 6) (Some Synchronisation) (cond (c == 7) (Some QuantifiedChoice)
     (cond (c == 8) (Some QuantifiedSynchronisation) (cond (c == 9) (Some Arrow) None))))))))
-
--- a number's kind, or the number itself where it has none
-abbrev pub TellsKind : ℕ → Result Kind UnknownKind → Type 0
-TellsKind number r = MatchResult r (λ kind. kind_of number ≡ Some kind) (λ e. (kind_of number ≡ None) × (e.0 ≡ number))
 
 -- the bytes after the length field of a record whose count is n
 abbrev pub length_of : Kind → ℕ → ℕ

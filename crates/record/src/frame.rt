@@ -1,4 +1,4 @@
-ghost use Rattle.std.specs.Prelude.{◌≡◌, ◌+◌, ◌*◌, ◌<◌, ◌≤◌, true, length, Some, None, MatchResult};
+ghost use Rattle.std.specs.Prelude.{◌≡◌, ◌+◌, ◌*◌, ◌≤◌, true, length, Some, None, MatchResult};
 ghost use Rattle.fault.specs.Asking.{refusal};
 ghost use Rattle.record.specs.Bytes.{field_at};
 ghost use Rattle.record.specs.Kinds.{kind_of, count_at, shortest_of};
@@ -31,7 +31,6 @@ impl Record<'_> {
 
     /// Questions 2 to 4.
     pub fn frame(&self) -> Result<Frame, Fault>
-        requires { (length self.now.bytes.now ≤ 16384) × (self.now.at < length self.now.bytes.now) }
         ensures frames_the_record_or_says_the_first_no { MatchResult result
             (λ f. (whole self.now.bytes.now self.now.at ≡ true) × (kind_of (field_at self.now.bytes.now (self.now.at + 2)) ≡ Some f.kind) × (exact self.now.bytes.now self.now.at ≡ true) × (f.end ≡ self.now.at + 2 + field_at self.now.bytes.now self.now.at))
             (λ e. refusal (frame_asks self.now.bytes.now self.now.at self.now.place) ≡ Some e) }

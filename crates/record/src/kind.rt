@@ -1,5 +1,6 @@
 ghost use Rattle.std.specs.Prelude.{◌≡◌};
-ghost use Rattle.record.specs.Kinds.{kind_of, length_of, TellsKind};
+ghost use Rattle.std.specs.Option.{ok_or};
+ghost use Rattle.record.specs.Kinds.{kind_of, length_of};
 
 /// The kind of a record: the eight kinds of node, and the arrow.
 #[derive(Clone, Copy, Debug, PartialEq, Eq)]
@@ -22,7 +23,7 @@ pub struct UnknownKind(pub u16);
 impl TryFrom<u16> for Kind {
     type Error = UnknownKind;
 
-    ghost try_from_gives = { TellsKind };
+    ghost try_from_gives = { λ number r. r ≡ ok_or (kind_of number) (record { 0 = number }) };
 
     fn try_from(number: u16) -> Result<Kind, UnknownKind> {
         match number {

@@ -10,7 +10,7 @@ use Rattle.roster.specs.declared.range.Range.{Range}
 abbrev pub range_fits : ℕ → ℕ → Bool
 range_fits first count = nat_le count 16 && nat_le (first + count) 65536
 
--- this holds of every run of values in a table
+-- an entry's run of values fits, if it has one; a table has only such entries
 abbrev pub in_range : Option Range → Bool
 in_range None = true
 in_range (Some s) = range_fits s.first s.count
