@@ -59,7 +59,7 @@ cells_numbers (r ∷ rs) = r ++ cells_numbers rs
 abbrev pub states_numbers : Tree → List Cells → List ℕ
 states_numbers t held = length held ∷ width t ∷ yes_number (some_finished t held) ∷ cells_numbers held
 
--- the answer of a menu, and the events that it lists into some places: the first of them, or all where it is refused
+-- the answer of a menu into some places, and the events in these: in as many of the first as it counts, or in all where it is refused
 abbrev pub listed_numbers : Result ℕ Fault → List Event → List ℕ
 listed_numbers answer places = answer_numbers answer ++ events_numbers (take (listed_by (length places) answer) places)
 
@@ -74,7 +74,7 @@ call_numbers d told s (Menu n) = menu_numbers (min n 65536) (menu_events s.tree 
 call_numbers d told s (Open ceiling) = answer_numbers (open_answer d told ceiling)
 call_numbers d told s Tell = states_numbers s.tree s.held
 
--- what stands after an offer's answer: the law says it
+-- what stands after an offer's answer: the states that are held then, and what the host means then (`states_after`, `meaning_then`)
 abbrev pub after_offer : Standing → Event → Result ℕ Fault → Standing
 after_offer s e r = record { tree = s.tree; ceiling = s.ceiling; held = states_after s.tree s.held s.now (offered e r); now = meaning_then s.now (offered e r) }
 

@@ -27,6 +27,7 @@ pub record Page : Type 0 where
   pub places : List ℕ
   pub written : ℕ
 
+-- these places, of which so many are written
 abbrev pub page : List ℕ → ℕ → Page
 page places written = record { places = places; written = written }
 

@@ -18,13 +18,15 @@ use Rattle.law.specs.Offers.{offer_answer}
 abbrev pub HoldsEnds : Tree → Meaning → List Event → List Cells → Type 0
 HoldsEnds t m w held = ListsExactly cells_rank (IsEnd t m w) held
 
--- the refusals of a call on a run
+-- 16: no held state has a successor; at their number
 abbrev pub no_successor : ℕ → Fault
 no_successor held = record { question = SuccessorExists; place = held }
 
+-- 17: more states would be held than the ceiling; at the ceiling
 abbrev pub too_many : ℕ → Fault
 too_many ceiling = record { question = SuccessorsWithinCeiling; place = ceiling }
 
+-- 18: a list has fewer places than the menu has events; at the number of its places
 abbrev pub too_short : ℕ → Fault
 too_short places = record { question = MenuWithinList; place = places }
 
@@ -47,8 +49,8 @@ TakenOtherwise t ceiling m w e r =
     InForm e → GoesOn t m w e → (MoreThan cells_rank (IsNextEnd t m w e) ceiling → ⊥)
     → (n : ℕ) × (r ≡ Ok n) × NumberOf cells_rank (IsNextEnd t m w e) n
 
--- an offer made instead, of any event in form, would be refused with 16 exactly when no chain over w goes on with it: said of what an offer
--- is answered where exactly the ends are held, and the host means what it means after w
+-- An offer made instead, of any event in form, would be refused with 16 exactly when no chain over w goes on with it: said of what an offer is
+-- answered where the states `held` are held and the host means `now`. Whoever cites it says that these are the ends, and what the host means after w.
 abbrev pub OfferedInstead : Tree → ℕ → Meaning → List Event → List Cells → Meaning → Type 0
 OfferedInstead t ceiling m w held now =
     (e : Event) → InForm e → Exactly (offer_answer t ceiling held now e ≡ Err (no_successor (length held))) (GoesOn t m w e → ⊥)

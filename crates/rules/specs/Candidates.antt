@@ -61,6 +61,6 @@ has_one (r ∷ l) = true
 abbrev pub some_moves : Tree → Guards → Event → List Cells → Bool
 some_moves t g e l = list_any (λ r. has_one (moves t g e no_variables r)) l
 
--- the events with which some chain over `events` goes on, rising, each once
+-- those candidates with which some chain over `events` goes on, rising, each once
 abbrev pub menu : Tree → Meaning → List Event → List Event
 menu t m events = arranged event_rank (filter (λ e. some_moves t (answers_after m events e) e (ends t m events)) (candidates t no_variables))

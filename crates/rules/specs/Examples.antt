@@ -415,14 +415,14 @@ pub record Choosy : Type 0 where
   pub outer_fails : EndsExactly choosy_tree limited (with_two 5 7 7 ∷ []) []
   pub inner_fails : EndsExactly choosy_tree limited (with_two 5 9 9 ∷ []) []
 
--- ---- all of them are drawings that a procedure may hold
+-- ---- all of them are sound, as what a procedure holds is. (A procedure's tables have places that are not in use; no tree looks at these.)
 
--- every drawing of a list has what holds of every procedure
+-- every drawing of a list is sound
 abbrev pub all_sound : List Drawing → Bool
 all_sound [] = true
 all_sound (d ∷ ds) = sound d.nodes d.arrows && all_sound ds
 
--- so have the examples
+-- the examples are
 abbrev pub ExamplesAreSound : Type 0
 ExamplesAreSound =
     all_sound (

@@ -79,7 +79,7 @@ OnlyOneListOfEnds =
 abbrev pub InitialHasWidth : Type 0
 InitialHasWidth = (t : Tree) → length (initial t) ≡ width t
 
--- and keeps that many
+-- and keeps that many, if it has them
 abbrev pub SuccessorHasWidth : Type 0
 SuccessorHasWidth = (t : Tree) (g : Guards) (e : Event) (v : Variables) (r r' : Cells) → length r ≡ width t → Step t g e v r r' → length r' ≡ width t
 
@@ -97,7 +97,7 @@ ProceduresAreSound = (p : Procedure) (values : Values) (node : ℕ) → Sound (t
 abbrev pub InitialInRange : Type 0
 InitialInRange = (t : Tree) → Sound t → InRange t (initial t)
 
--- and stay in range
+-- and stay in range, where they are as many as the part takes
 abbrev pub SuccessorInRange : Type 0
 SuccessorInRange =
     (t : Tree) (g : Guards) (e : Event) (v : Variables) (r r' : Cells) → Sound t → length r ≡ width t → InRange t r → Step t g e v r r' → InRange t r'
@@ -130,7 +130,7 @@ AllInstancesMove =
     (xs labels : List ℕ) (b : Tree) (g : Guards) (e : Event) (v : Variables) (r r' : Cells) → in_set e.label labels ≡ true → has_value xs ≡ true
     → Step (quantified_synchronisation xs labels b) g e v r r' ↔ EveryInstanceMoves (width b) (λ x. Step b g e (bound x v)) xs r r'
 
--- with a label outside the set one instance moves, under its own value, and the others stay
+-- with a label outside the set one instance moves, under its own value, and the others stay (of as many cells as all instances take)
 abbrev pub OneInstanceMovesAlone : Type 0
 OneInstanceMovesAlone =
     (xs labels : List ℕ) (b : Tree) (g : Guards) (e : Event) (v : Variables) (r r' : Cells) → in_set e.label labels ≡ false → length r ≡ times xs (width b)
@@ -230,11 +230,11 @@ MoreGuardsMoveMore =
     (t : Tree) (g g' : Guards) (e : Event) (v : Variables) (r r' : Cells)
     → ((guard : ℕ) (w : Variables) → g guard w ≡ true → g' guard w ≡ true) → Step t g e v r r' → Step t g' e v r r'
 
--- a carried event in form is a candidate
+-- in a sound diagram a carried event in form is a candidate
 abbrev pub CarriedIsCandidate : Type 0
 CarriedIsCandidate = (t : Tree) (e : Event) (v : Variables) → Sound t → InForm e → Carried t e v → Memᴰ e (candidates t v)
 
--- an event in form is on the computed menu exactly when some chain goes on with it
+-- in a sound diagram an event in form is on the computed menu exactly when some chain goes on with it
 abbrev pub MenuIsExact : Type 0
 MenuIsExact = (t : Tree) (m : Meaning) (events : List Event) (e : Event) → Sound t → InForm e → Memᴰ e (menu t m events) ↔ GoesOn t m events e
 

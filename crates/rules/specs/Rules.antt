@@ -24,7 +24,7 @@ pub record Carries (a : Arrow) (e : Event) (v : Variables) : Type 0 where
   pub first : argument_of a.first v ≡ first_argument e
   pub second : argument_of a.second v ≡ second_argument e
 
--- an arrow leads out of state q, whose child has the cells s: it carries the event, its guard holds, and it need not wait
+-- an arrow leads out of state q, whose child has the cells s: it carries the event, its guard holds, and it does not wait or the child is finished
 pub record Leads (g : Guards) (e : Event) (v : Variables) (q : ℕ) (child : Tree) (s : Cells) (a : Arrow) : Type 0 where
   pub leaves : a.from ≡ q
   pub carries : Carries a e v

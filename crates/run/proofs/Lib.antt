@@ -5,4 +5,5 @@ pub mod Rehearsals
 pub mod Replays
 pub mod Shown
 pub mod Stands
+pub mod Told
 pub mod Unopened

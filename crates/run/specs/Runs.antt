@@ -15,7 +15,7 @@ use Rattle.opened.specs.Opens.{OpenedWith, with_of}
 use Rattle.opened.specs.declared.opened.Opened.{Opened}
 use Rattle.run.specs.declared.run.Run.{Run}
 
--- that of an opened diagram, if there is one
+-- what an opened diagram was opened with, if there is one
 abbrev pub opened_with_of : Option Opened → Option OpenedWith
 opened_with_of None = None
 opened_with_of (Some o) = Some (with_of o)

@@ -74,7 +74,7 @@ impl Run {
         Ok(count)
     }
 
-    /// Shows the menu: writes every event with a successor, in order, into the first places of a list, leaves later places as they were, and
+    /// Shows the menu: writes every event in form with a successor, in order, into the first places of a list, leaves later places as they were, and
     /// answers their number. Where the list has too few places it is refused, and the list holds the menu's first events.
     pub fn menu<H: GuardHost>(&self, host: &H, list: &mut [Event]) -> Result<usize, Fault>
         ensures answers_as_the_question_says { result ≡ menu_answer (length list.old) (menu_events (tree_in self.now) (states self.now) (H.meaning host.now)) }

@@ -1,10 +1,10 @@
 -- All ten diagrams.
 use Rattle.std.proofs.Common.{◌≡◌, refl, sym, ap, subst, ℕ, nat_lt, List, [], ◌∷◌, Option}
 use Rattle.std.proofs.Math.Nat.{zero-add}
-use Rattle.host.specs.Tallying.{events_of}
+use Rattle.host.specs.Tallying.{events_of, tally_answer}
 use Rattle.host.specs.declared.tally.Tally.{Tally}
 use Rattle.worked.specs.Worked.{Types, TenDiagrams}
-use Rattle.worked.proofs.Told.{type_0_told, table_once, by_table}
+use Rattle.worked.proofs.Told.{type_0_told, table_once, by_table, none-there}
 use Rattle.worked.proofs.Axles.{first, second, third}
 use Rattle.worked.proofs.Sides.{apart, too-many, together}
 use Rattle.worked.proofs.Kept.{handed-over, either-side}
@@ -13,7 +13,14 @@ use Rattle.worked.proofs.Held.{once, all-together, waited}
 ten : TenDiagrams (type_0_told (1 ∷ 2 ∷ 3 ∷ [])) (type_0_told (1 ∷ 2 ∷ [])) (by_table table_once)
 ten = record {
   numbers = record { sixteen = λ place. refl; seventeen = λ place. refl };
-  settings = record { axles_are = refl; wheels_are = refl; once_counts = λ w e v. ap (λ (n : ℕ). nat_lt n 1) (zero-add (events_of 8 w)) };
+  settings = record {
+    axles_are = refl;
+    no_other_axles = λ n. refl;
+    wheels_are = refl;
+    no_other_wheels = λ n. refl;
+    once_counts = λ w e v. ap (λ (n : ℕ). nat_lt n 1) (zero-add (events_of 8 w));
+    no_other_guard = λ w n e v. ap (λ (t : Option Tally). tally_answer t w) (none-there 31 n);
+  };
   one = first;
   two = second;
   three = third;

@@ -1,5 +1,5 @@
 -- What the settings tell and mean.
-use Rattle.std.proofs.Common.{◌≡◌, ℕ, zero, suc, ◌∙◌, List, Option, Some, None, replicate, slice_set, arith}
+use Rattle.std.proofs.Common.{◌≡◌, refl, ℕ, zero, suc, ◌∙◌, List, Option, Some, None, replicate, slice_set, slice_index_or, arith}
 use Rattle.host.specs.Meanings.{Meaning}
 use Rattle.host.specs.Tallying.{tallies_answer}
 use Rattle.host.specs.declared.tally.Tally.{Tally}
@@ -17,6 +17,12 @@ only-type-0 told before xs is others none = λ i ty. at ty i
     at : (ty : ℕ) → told ty ≡ type_0_told xs ty
     at zero = is
     at (suc n) = others (suc n) (λ p. absurd (omega (arith, p))) ∙ none (suc n)
+
+-- a table of nothing has nothing anywhere
+pub none-there : (size n : ℕ) → slice_index_or (replicate {A = Option Tally} size None) n None ≡ None
+none-there zero n = refl
+none-there (suc size) zero = refl
+none-there (suc size) (suc n) = none-there size n
 
 -- the table of a host by tallies of which guard 0 has one: fewer than one event of label 8
 abbrev pub table_once : List (Option Tally)

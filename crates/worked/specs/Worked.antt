@@ -1,5 +1,5 @@
 -- Ten worked diagrams, from the bytes of their files: after each event which cells are held, which events are possible, and what an offer is answered.
-use Rattle.std.specs.Prelude.{◌≡◌, ℕ, true, false, ◌↔◌, List, [], ◌∷◌, length, nat_lt, Option, Some, Ok, Err, Result}
+use Rattle.std.specs.Prelude.{◌≡◌, ℕ, suc, true, false, ◌↔◌, List, [], ◌∷◌, length, nat_lt, Option, Some, None, Ok, Err, Result}
 use Rattle.fault.specs.Faults.{number_of}
 use Rattle.fault.specs.declared.fault.Fault.{Fault}
 use Rattle.procedure.specs.Drawings.{Drawing}
@@ -134,12 +134,15 @@ pub record Diagram10 (t : Tree) (m : Meaning) : Type 0 where
   pub takes_12 : Answered t 128 m (bare 11 ∷ []) (bare 12) (Ok 1)
   pub after_12 : After t m (bare 11 ∷ bare 12 ∷ []) ((1 ∷ 0 ∷ []) ∷ []) []
 
--- what the settings tell and mean: of type 0 the axles 1, 2, 3 and the wheels 1, 2; and guard 0 says yes while fewer than one event of
--- label 8 was told
+-- what the settings tell and mean: of type 0 the axles 1, 2, 3 and the wheels 1, 2, and every other type is unknown; and guard 0 says yes while
+-- fewer than one event of label 8 was told, and every other guard no
 pub record AreSet (axles_told wheels_told : Types) (once : Meaning) : Type 0 where
   pub axles_are : axles_told 0 ≡ Some (1 ∷ 2 ∷ 3 ∷ [])
+  pub no_other_axles : (n : ℕ) → axles_told (suc n) ≡ None
   pub wheels_are : wheels_told 0 ≡ Some (1 ∷ 2 ∷ [])
+  pub no_other_wheels : (n : ℕ) → wheels_told (suc n) ≡ None
   pub once_counts : (w : List Event) (e : Event) (v : Variables) → once w 0 e v ≡ nat_lt (events_of 8 w) 1
+  pub no_other_guard : (w : List Event) (n : ℕ) (e : Event) (v : Variables) → once w (suc n) e v ≡ false
 
 -- All ten: 1 to 3 under what `axles_told` says of type 0, 9 under what `wheels_told` says, 8 with the host `once`; the others under any values, and all
 -- but 8 with any host.
