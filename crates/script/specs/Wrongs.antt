@@ -1,22 +1,21 @@
 -- What is said of a line that is no call, or none at its place.
-use Rattle.std.specs.Prelude.{ℕ, List, codes, decimal}
+use Rattle.std.specs.Prelude.{ℕ, cond, List, codes, decimal, ◌==◌}
 use Rattle.text.specs.Texts.{◌⌢◌}
-use Rattle.script.specs.Names.{text_of_name}
+use Rattle.script.specs.Names.{text_of_name, fewest_of, most_of}
 use Rattle.script.specs.declared.name.Name.{Name}
-use Rattle.script.specs.declared.name.Name.TheVariants.{Range, Limit, Tally, Open, Offer, Raw, Menu, Rows}
 use Rattle.script.specs.declared.wrong.Wrong.{Wrong}
 use Rattle.script.specs.declared.wrong.Wrong.TheVariants.{NoSuchCall, NoSuchHost, TooFew, TooMany, NoNumber, LateHost, NoLimits, NoTallies}
 
+-- from so many to so many: `none`, `3`, `at most 1` or `1 to 3`
+abbrev pub span_text : ℕ → ℕ → List ℕ
+span_text fewest most =
+    cond (most == 0) (codes "none")
+    (cond (fewest == most) (decimal most)
+    (cond (fewest == 0) (codes "at most " ⌢ decimal most) (decimal fewest ⌢ codes " to " ⌢ decimal most)))
+
 -- how many numbers a call takes
 abbrev pub text_of_takes : Name → List ℕ
-text_of_takes Range = codes "3"
-text_of_takes Limit = codes "4"
-text_of_takes Tally = codes "3"
-text_of_takes Open = codes "1"
-text_of_takes Offer = codes "1 to 3"
-text_of_takes Raw = codes "4"
-text_of_takes Menu = codes "at most 1"
-text_of_takes Rows = codes "none"
+text_of_takes name = span_text (fewest_of name) (most_of name)
 
 -- what is wrong
 abbrev pub wrong_text : Wrong → List ℕ

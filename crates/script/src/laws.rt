@@ -10,7 +10,7 @@ pub fn words_stand_between_blanks()
     ensures the_line_ends_the_last_word { LinesEndWords }
 {}
 
-/// The text of a call is read as that call.
+/// A name and as many numbers as it takes are read as its call, and `host` with a kind as that choice.
 pub fn calls_read_back()
     ensures a_name_and_its_numbers { CallsReadBack }
     ensures the_choice_of_a_host { HostsReadBack }

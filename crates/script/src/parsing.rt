@@ -6,7 +6,7 @@ use crate::line::Line;
 use crate::words::Words;
 use crate::wrong::Wrong;
 
-/// What a line of a script calls, if it calls anything. A line has no end of a line in it.
+/// What a line of a script calls, if it calls anything. An end of a line is no blank here: whoever reads a script splits it there.
 pub fn parse(line: &[u8]) -> Result<Option<Line>, Wrong>
     ensures reads_the_line_as_defined { result ≡ line_of line.now }
 {

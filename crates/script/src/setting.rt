@@ -2,7 +2,7 @@ ghost use Rattle.std.specs.Prelude.{◌≡◌, ℕ, false, List, [], ◌∷◌};
 ghost use Rattle.event.specs.declared.event.Event.{Event};
 ghost use Rattle.host.specs.declared.variables.Variables.{Variables};
 ghost use Rattle.host.specs.Meanings.{Told};
-ghost use Rattle.script.specs.Hosts.{host_meaning, kind_of, limit_answered, SetsLimit, tally_answered, SetsTally, with_limit, with_tally, Means, IfSet, UnlessSet};
+ghost use Rattle.script.specs.Hosts.{host_meaning, kind_of, NoneSet, limit_answered, SetsLimit, tally_answered, SetsTally, Hears, with_limit, with_tally, Means, IfSet, UnlessSet};
 ghost use Rattle.host.specs.Limiting.{limit_numbered};
 
 use crate::host_kind::HostKind;
@@ -18,6 +18,7 @@ impl Host {
     /// A host of a kind, which says no to every guard until one is set.
     pub fn of(kind: HostKind) -> Host
         ensures is_of_that_kind { kind_of result ≡ kind }
+        ensures has_none_set { NoneSet result }
         ensures says_no { (w : List Event) (guard : ℕ) (e : Event) (v : Variables) → host_meaning result w guard e v ≡ false }
     {
         match kind {
@@ -76,7 +77,10 @@ impl GuardHost for Host {
         }
     }
 
-    fn tell(&mut self, event: Event) {
+    fn tell(&mut self, event: Event)
+        ensures answers_as_after_the_event { Told (host_meaning self.old) (event ∷ []) (host_meaning self.new) }
+        ensures hears_as_its_kind_does { Hears self.old event self.new }
+    {
         match self {
             Host::Limits(limits) => limits.tell(event),
             Host::Tallies(tallies) => tallies.tell(event),

@@ -26,25 +26,25 @@ abbrev pub each : {X : Type 0} → (ℕ → X → List ℕ) → ℕ → List X �
 each text n [] = []
 each text n (x ∷ xs) = text n x ⌢ each text (n + 1) xs
 
--- a label with its arguments: `2`, `2(outer)`, `3(7,inner)`
+-- an argument; nothing where it is absent
 abbrev pub argument_text : Argument → List ℕ
 argument_text Absent = []
 argument_text (Constant value) = decimal value
 argument_text Outer = codes "outer"
 argument_text Inner = codes "inner"
 
--- the label, and in brackets its arguments, if there are any
+-- a label, and in brackets its arguments, if there are any: `2`, `2(outer)`, `3(7,inner)`
 abbrev pub label_text : ℕ → Argument → Argument → List ℕ
 label_text number first second =
     cond (is_absent first) (decimal number)
     (cond (is_absent second) (decimal number ⌢ codes "(" ⌢ argument_text first ⌢ codes ")")
     (decimal number ⌢ codes "(" ⌢ argument_text first ⌢ codes "," ⌢ argument_text second ⌢ codes ")"))
 
--- a set of labels: `labels 2, 5` or `no labels`
+-- a label behind another
 abbrev pub further_label : ℕ → ℕ → List ℕ
 further_label n label = codes ", " ⌢ decimal label
 
--- labels with commas between them
+-- labels with commas between them: `labels 2, 5` or `no labels`
 abbrev pub labels_text : List ℕ → List ℕ
 labels_text [] = codes "no labels"
 labels_text (label ∷ labels) = codes "labels " ⌢ decimal label ⌢ each further_label 1 labels
@@ -53,7 +53,7 @@ labels_text (label ∷ labels) = codes "labels " ⌢ decimal label ⌢ each furt
 abbrev pub label_set_text : Table ℕ → List ℕ
 label_set_text labels = labels_text labels.items
 
--- states, each with its number: `states 0, 1 shallow, 2 deep child 3`
+-- a state's mark, if it has one
 abbrev pub text_of_mark : Mark → List ℕ
 text_of_mark Unmarked = []
 text_of_mark Shallow = codes " shallow"
@@ -72,7 +72,7 @@ state_text number state = decimal number ⌢ text_of_mark state.mark ⌢ child_t
 abbrev pub further_state : ℕ → State → List ℕ
 further_state number state = codes ", " ⌢ state_text number state
 
--- states with commas between them, numbered from 0
+-- states with commas between them, numbered from 0: `states 0, 1 shallow, 2 deep child 3`
 abbrev pub state_list_text : List State → List ℕ
 state_list_text [] = codes "no states"
 state_list_text (state ∷ states) = codes "states " ⌢ state_text 0 state ⌢ each further_state 1 states
@@ -81,7 +81,7 @@ state_list_text (state ∷ states) = codes "states " ⌢ state_text 0 state ⌢ 
 abbrev pub states_text : States → List ℕ
 states_text states = state_list_text states.table.items
 
--- a node, and its line: `node 8: choice, left 6, right 7`
+-- a node: `choice, left 6, right 7`
 abbrev pub node_text : Node → List ℕ
 node_text (Automaton states) = codes "automaton, start " ⌢ decimal states.start ⌢ codes ", " ⌢ states_text states
 node_text (Sequence first second) = codes "sequence, first " ⌢ decimal first ⌢ codes ", second " ⌢ decimal second
@@ -92,11 +92,11 @@ node_text (Synchronisation left right labels) = codes "synchronisation, left " �
 node_text (QuantifiedChoice over body) = codes "quantified choice, type " ⌢ decimal over ⌢ codes ", body " ⌢ decimal body
 node_text (QuantifiedSynchronisation over body labels) = codes "quantified synchronisation, type " ⌢ decimal over ⌢ codes ", body " ⌢ decimal body ⌢ codes ", " ⌢ label_set_text labels
 
--- a node with its number
+-- the line of a node: `node 8: choice, left 6, right 7`
 abbrev pub node_line_text : ℕ → Node → List ℕ
 node_line_text number node = codes "node " ⌢ decimal number ⌢ codes ": " ⌢ node_text node
 
--- an arrow, and its line: `arrow 0: automaton 4, from 0 to 1 on 2(outer), wait, guard 3`
+-- whether an arrow waits
 abbrev pub text_of_wait : Bool → List ℕ
 text_of_wait true = codes "wait"
 text_of_wait false = codes "no wait"
@@ -110,7 +110,7 @@ guard_text (Some guard) = codes "guard " ⌢ decimal guard
 abbrev pub road_text : Arrow → List ℕ
 road_text arrow = codes "automaton " ⌢ decimal arrow.node ⌢ codes ", from " ⌢ decimal arrow.from ⌢ codes " to " ⌢ decimal arrow.to
 
--- an arrow with its number
+-- the line of an arrow: `arrow 0: automaton 4, from 0 to 1 on 2(outer), wait, guard 3`
 abbrev pub arrow_text : ℕ → Arrow → List ℕ
 arrow_text number arrow =
     codes "arrow " ⌢ decimal number ⌢ codes ": " ⌢ road_text arrow
@@ -127,7 +127,7 @@ refused_line fault =
     codes "refused: number " ⌢ decimal (number_of fault.question) ⌢ codes ", layer " ⌢ decimal (layer_number_of (layer_of fault.question))
     ⌢ codes ", place " ⌢ decimal fault.place
 
--- the second line of a refusal: what was asked, and where the answer was no
+-- what was asked
 abbrev pub text_of_question : Question → List ℕ
 text_of_question FileWithinLimit = codes "Is the file within 16,384 bytes?"
 text_of_question RecordWhole = codes "Is the record whole, with a length of at least 2?"
@@ -183,6 +183,6 @@ answer_text SuccessorsWithinCeiling place = no_at place
 answer_text MenuWithinList place = no_at place
 answer_text SettingInRange place = no_at place
 
--- the question and its answer
+-- the second line of a refusal: what was asked, and where the answer was no
 abbrev pub reason_line : Fault → List ℕ
 reason_line fault = text_of_question fault.question ⌢ codes " " ⌢ answer_text fault.question fault.place
