@@ -1,17 +1,29 @@
 //! Reads a procedure file, and tells what it holds or why it is refused; or plays a script on it, and tells what each call comes to.
 #![tactic(auto)]
 
+ghost use Rattle.std.specs.Prelude.{◌≡◌, IfOk};
+ghost use Rattle.std.specs.Process.{exit_status};
+ghost use Rattle.procedure.specs.Reading.{reading};
+ghost use Rattle.logger.specs.Playing.{script_told};
+ghost use Rattle.logger.specs.Tellings.{report_status, lines_status, script_status};
+
+mod account;
+mod calling;
+mod lines;
 mod log;
 mod logged;
+mod making;
 mod playing;
 mod report;
+mod rows;
 mod session;
-mod stop;
 mod stretch;
+mod stretching;
 #[cfg(test)]
 mod tests;
 
-use crate::playing::{Account, played};
+use crate::account::Account;
+use crate::playing::played;
 use crate::report::reported;
 use std::fs::File;
 use std::io::Read;
@@ -39,12 +51,11 @@ fn readable(rt: &HostRuntime, path: &str, enough: u64) -> anyhow::Result<Option<
     }
 }
 
-/// Prints the report of a file; a failure where the file is refused or cannot be read.
-fn tell(rt: &HostRuntime, path: &str) -> anyhow::Result<ExitCode> {
-    let Some(bytes) = readable(rt, path, ENOUGH)? else {
-        return Ok(ExitCode::FAILURE);
-    };
-    match reported(rt.alloc(), &bytes)? {
+/// Prints the report of a file; a failure where the file is refused.
+fn tell(rt: &HostRuntime, file: &[u8]) -> anyhow::Result<ExitCode>
+    ensures { IfOk result (λ code. exit_status code ≡ report_status (reading file.now)) }
+{
+    match reported(rt.alloc(), file)? {
         Ok(text) => {
             print!(rt; "{text}")?;
             Ok(ExitCode::SUCCESS)
@@ -56,16 +67,12 @@ fn tell(rt: &HostRuntime, path: &str) -> anyhow::Result<ExitCode> {
     }
 }
 
-/// Plays a script on a file, and prints what is said; a failure where a file is refused or cannot be read, and where a line is wrong.
-fn play(rt: &HostRuntime, path: &str, script: &str) -> anyhow::Result<ExitCode> {
-    let Some(file) = readable(rt, path, ENOUGH)? else {
-        return Ok(ExitCode::FAILURE);
-    };
-    let Some(script) = readable(rt, script, u64::MAX)? else {
-        return Ok(ExitCode::FAILURE);
-    };
-    match played(rt.alloc(), &file, &script)? {
-        Ok(played) => conclude(rt, &played),
+/// Plays a script on a file, and prints what is said; a failure where the file is refused, and where a line is wrong.
+fn play(rt: &HostRuntime, file: &[u8], script: &[u8]) -> anyhow::Result<ExitCode>
+    ensures { IfOk result (λ code. exit_status code ≡ script_status (script_told file.now script.now)) }
+{
+    match played(rt.alloc(), file, script)? {
+        Ok(account) => conclude(rt, &account),
         Err(text) => {
             print!(rt; "{text}")?;
             Ok(ExitCode::FAILURE)
@@ -74,15 +81,31 @@ fn play(rt: &HostRuntime, path: &str, script: &str) -> anyhow::Result<ExitCode> 
 }
 
 /// Prints what was said, and the line that is wrong.
-fn conclude(rt: &HostRuntime, played: &Account) -> anyhow::Result<ExitCode> {
-    print!(rt; "{}", played.said.as_str())?;
-    match played.wrong {
+fn conclude(rt: &HostRuntime, account: &Account) -> anyhow::Result<ExitCode>
+    ensures { IfOk result (λ code. exit_status code ≡ lines_status account.now.wrong) }
+{
+    print!(rt; "{}", account.said.as_str())?;
+    match account.wrong {
         None => Ok(ExitCode::SUCCESS),
         Some(line) => {
             eprintln!(rt; "{line}")?;
             Ok(ExitCode::FAILURE)
         }
     }
+}
+
+/// What the program is asked for: the report of a file, or a script played on it; a failure also where one cannot be read.
+fn answer(rt: &HostRuntime, path: &str, script: Option<String>) -> anyhow::Result<ExitCode> {
+    let Some(file) = readable(rt, path, ENOUGH)? else {
+        return Ok(ExitCode::FAILURE);
+    };
+    let Some(script) = script else {
+        return tell(rt, &file);
+    };
+    let Some(script) = readable(rt, script.as_str(), u64::MAX)? else {
+        return Ok(ExitCode::FAILURE);
+    };
+    play(rt, &file, &script)
 }
 
 fn main(rt: HostRuntime) -> anyhow::Result<ExitCode> {
@@ -92,8 +115,5 @@ fn main(rt: HostRuntime) -> anyhow::Result<ExitCode> {
         eprintln!(rt; "logger: no file is named: write logger FILE [SCRIPT]")?;
         return Ok(ExitCode::FAILURE);
     };
-    match args.next() {
-        None => tell(&rt, path.as_str()),
-        Some(script) => play(&rt, path.as_str(), script.as_str()),
-    }
+    answer(&rt, path.as_str(), args.next())
 }
