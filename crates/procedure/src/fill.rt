@@ -1,7 +1,7 @@
 ghost use Rattle.std.specs.Prelude.{◌≡◌, ◌+◌, ◌≤◌, length, Some, None, MatchResult};
 ghost use Rattle.fault.specs.Asking.{refusal};
 ghost use Rattle.record.specs.Bytes.{field_at};
-ghost use Rattle.procedure.specs.Drawings.{grown};
+ghost use Rattle.procedure.specs.Drawings.{nothing_drawn, grown};
 ghost use Rattle.procedure.specs.Reading.{records, drawn_by, file_asks, entry_here, record_asks};
 
 use crate::draft::Draft;
@@ -23,16 +23,17 @@ impl Draft {
         Ok(frame.end)
     }
 
-    /// Questions 1 to 7: what one record after the other draws.
-    pub(crate) fn of(bytes: &[u8]) -> Result<Draft, Fault>
+    /// Questions 1 to 7: what one record after the other draws, into an empty draft. It is filled where it lies: a draft that is handed
+    /// on in a `Result` is written twice more, 20 KB each.
+    pub(crate) fn fill(&mut self, bytes: &[u8]) -> Result<(), Fault>
+        requires { self.old ≡ nothing_drawn }
         ensures { MatchResult result
-            (λ draft. (draft ≡ drawn_by bytes.now (records bytes.now)) × (refusal (file_asks bytes.now) ≡ None))
+            (λ _. (self.new ≡ drawn_by bytes.now (records bytes.now)) × (refusal (file_asks bytes.now) ≡ None))
             (λ f. refusal (file_asks bytes.now) ≡ Some f) }
     {
         if bytes.len() > MOST_BYTES {
             return Err(Question::FileWithinLimit.at(0));
         }
-        let mut draft = Draft::empty();
         let mut at = 0;
         // a record takes a byte or more, so there are no more records than bytes; an iterator of records would have to say in
         // ghost members all that a reading knows so far
@@ -40,8 +41,8 @@ impl Draft {
             if at >= bytes.len() {
                 break;
             }
-            at = draft.read(&Record { bytes, at, place })?;
+            at = self.read(&Record { bytes, at, place })?;
         }
-        Ok(draft)
+        Ok(())
     }
 }

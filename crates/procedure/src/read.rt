@@ -21,13 +21,13 @@ impl Procedure {
     }
 }
 
-/// Questions 8 to 10, of a draft.
-impl TryFrom<Draft> for Procedure {
+/// Questions 8 to 10, of a draft, which is lent: one that is given away is written once more, 20 KB.
+impl TryFrom<&Draft> for Procedure {
     type Error = Fault;
 
-    ghost try_from_gives = { BecomesWhole };
+    ghost try_from_gives = { λ draft. BecomesWhole draft.now };
 
-    fn try_from(draft: Draft) -> Result<Procedure, Fault> {
+    fn try_from(draft: &Draft) -> Result<Procedure, Fault> {
         draft.whole()?;
         Ok(Procedure {
             nodes: draft.nodes,
@@ -42,7 +42,9 @@ fn drafted(file: &[u8]) -> Result<Procedure, Fault>
         (λ p. (drawing p ≡ drawn_by file.now (records file.now)) × (refusal (asks file.now) ≡ None))
         (λ f. refusal (asks file.now) ≡ Some f) }
 {
-    Procedure::try_from(Draft::of(file)?)
+    let mut draft = Draft::empty();
+    draft.fill(file)?;
+    Procedure::try_from(&draft)
 }
 
 /// What a file gives: a procedure, empty where the file is refused, and the answer.

@@ -3,8 +3,8 @@ use Rattle.std.proofs.lemmas.Grind.{common_steps}
 use Rattle.procedure.proofs.Readings.{asks-stop, asks-more}
 use Rattle.procedure.proofs.read.drafted.Goals as goal
 
-pub returns-in_err-of : goal.returns-in_err-of
-returns-in_err-of c = grind (arith, common_steps, asks-stop)
+pub returns-in_err-fill : goal.returns-in_err-fill
+returns-in_err-fill c = grind (arith, common_steps, asks-stop)
 
 pub returns : goal.returns
 returns c = grind (arith, common_steps, asks-more)

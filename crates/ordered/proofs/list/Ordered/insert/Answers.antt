@@ -1,7 +1,7 @@
-use Rattle.std.proofs.Common.{◌≡◌, ℕ, ◌≤◌, ◌==◌, false, List, length, take, refl, sym, arith}
+use Rattle.std.proofs.Common.{◌≡◌, ℕ, ◌≤◌, ◌==◌, false, List, length, take, refl, subst, sym, arith}
 use Rattle.std.proofs.lemmas.Bool.Decides.{nat_tests}
 use Rattle.std.proofs.lemmas.List.{take_all, length-take-le}
-use Rattle.ordered.specs.Order.{Order, kept, spills, insert_ordered}
+use Rattle.ordered.specs.Order.{Order, Rising, kept, spills, insert_ordered}
 use Rattle.ordered.specs.Seeking.{ComesAt}
 use Rattle.ordered.proofs.Fitted.{put-in, full-spills}
 use Rattle.ordered.proofs.Laws.{Promised, promised, rising-kept}
@@ -50,7 +50,7 @@ invariant_of-self g c =
     let is : take end t ≡ kept rank (length s) (take used s) c.args.x = put-in rank s t c.in-Err.at used end c.args.x in-use here c.grown-end.ensures c.insert_at.ensures.puts in
     record {
       fits = omega (arith, c.grown-end.ensures, c.insert_at.auto.places);
-      rises = rw is (rising-kept rank (order g) (length s) (take used s) c.args.x c.args.self.now.rises);
+      rises = subst (λ l. Rising rank l) (sym is) (rising-kept rank (order g) (length s) (take used s) c.args.x c.args.self.now.rises);
     }
 
 pub returns : goal.returns

@@ -1,5 +1,5 @@
 use Rattle.procedure.proofs.Readings.{sound-whole}
-use Rattle.procedure.proofs.read.ProcedureTryFromDraft.try_from.Goals as goal
+use Rattle.procedure.proofs.read.ProcedureTryFromRefDraft.try_from.Goals as goal
 
 pub invariant_of-result : goal.invariant_of-result
 invariant_of-result c =

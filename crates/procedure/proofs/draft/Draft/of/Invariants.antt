@@ -1,5 +1,0 @@
-use Rattle.procedure.proofs.Reached.{Reached}
-use Rattle.procedure.proofs.draft.Draft.of.Given as goal
-
-abbrev pub invariant-loop-place : goal.invariant-loop-place
-invariant-loop-place l = Reached l.bytes l.place l.at l.draft
